@@ -59,8 +59,8 @@ struct ecat_refusal {
 };
 
 /* A variable: its name, which ends with a zero byte, how many bits it has, whether your program sets it, and whether it is signed.
-   `bit` is its first bit in the image of `ecat_outputs` or `ecat_inputs`; bit 0 is the lowest of the first byte. No table says yet that
-   a variable is signed, so none is. */
+   `bit` is its first bit in the image of `ecat_outputs` or `ecat_inputs`; bit 0 is the lowest of the first byte. A variable is signed
+   if its table says so. */
 struct ecat_variable_info {
     char name[33];
     uint8_t bits;
@@ -114,6 +114,7 @@ bool ecat_c_segment_get(struct ecat_segment segment, size_t slave, size_t place,
 bool ecat_c_segment_put(struct ecat_segment segment, size_t slave, size_t place, uint8_t byte, struct ecat_segment *out);
 struct ecat_done ecat_c_segment_outputs(struct ecat_segment segment, size_t slave, uint8_t *outputs, size_t room, struct ecat_segment *out);
 struct ecat_done ecat_c_segment_inputs(struct ecat_segment segment, size_t slave, const uint8_t *inputs, size_t len, struct ecat_segment *out);
+struct ecat_done ecat_c_segment_exchange(struct ecat_segment segment, size_t slave, const uint8_t *inputs, size_t len, uint8_t *outputs, size_t room, struct ecat_segment *out);
 bool ecat_c_segment_fault(struct ecat_segment segment, size_t slave, struct ecat_segment *out);
 bool ecat_c_segment_reset(struct ecat_segment segment, size_t slave, struct ecat_segment *out);
 
@@ -189,7 +190,8 @@ ECAT_CALL size_t ecat_next(struct ecat *m, uint8_t *frame, size_t room) {
 }
 
 /* Returns true if the frame that `ecat_next` wrote last asks again what the frame before it asked, so that you may rest before you
-   send it: 1 ms, say. Returns false for any other frame, or without a handle. */
+   send it: 1 ms, say. Frames that write process data don't count as frames before it. Returns false for any other frame, or without a
+   handle. */
 ECAT_CALL bool ecat_waits(const struct ecat *m) {
     struct ecat same = {ECAT_NONE};
     if (!m || !m->at) return false;
@@ -471,6 +473,15 @@ ECAT_CALL size_t ecat_segment_inputs(struct ecat_segment *s, size_t slave, const
     const uint8_t *bytes = ecat_bytes(inputs, &len);
     if (!s || !s->at) return 0;
     return ecat_c_segment_inputs(ecat_segment_lent(s), slave, bytes, len, s).count;
+}
+
+/* A step of the slave and of its application, in one call: `ecat_segment_serve`, `ecat_segment_inputs` with the `len` bytes of
+   `inputs`, and `ecat_segment_outputs` into `outputs`, whose result it returns. The two may not overlap. */
+ECAT_CALL size_t ecat_segment_exchange(struct ecat_segment *s, size_t slave, const uint8_t *inputs, size_t len, uint8_t *outputs, size_t room) {
+    const uint8_t *given = ecat_bytes(inputs, &len);
+    uint8_t *bytes = ecat_room(outputs, &room);
+    if (!s || !s->at) return 0;
+    return ecat_c_segment_exchange(ecat_segment_lent(s), slave, given, len, bytes, room, s).count;
 }
 
 /* The slave's application has a fault: the slave goes from OP to SAFEOP, and sets the error flag of its AL status. Returns false

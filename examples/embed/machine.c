@@ -61,6 +61,7 @@ static void mistakes(size_t len) {
     must(ecat_counters(&m, 0, &al, NULL) == 0, "and counts nothing");
     must(!ecat_segment_serve(&s, 0) && !ecat_segment_pass(&s, frame, 4), "nor a slave");
     must(ecat_segment_outputs(&s, 0, room, sizeof room) == 0 && ecat_segment_inputs(&s, 0, room, 0) == 0, "nor its process data");
+    must(ecat_segment_exchange(&s, 0, NULL, 0, room, sizeof room) == 0, "nor a step of it");
     must(!strcmp(ecat_version(), ECAT_VERSION), "there is a version");
     ecat_drop(&m);
     ecat_drop(NULL);
@@ -162,7 +163,7 @@ static void facts(const struct ecat *m) {
 
 /* Tries what a slave's application reads and writes: whole, it is what it is byte by byte. */
 static void process_data(struct ecat_segment *slaves) {
-    uint8_t bytes[64], byte;
+    uint8_t bytes[64], again[64], byte;
     size_t count = ecat_segment_outputs(slaves, 0, bytes, sizeof bytes), size = ecat_segment_inputs(slaves, 0, NULL, 0);
     must(count > 0 && ecat_segment_outputs(slaves, 0, NULL, 0) == count && size > 0 && size <= sizeof bytes, "a slave has outputs and inputs");
     for (size_t k = 0; k < count; k++) must(ecat_segment_get(slaves, 0, k, &byte) && byte == bytes[k], "each byte is read");
@@ -170,6 +171,9 @@ static void process_data(struct ecat_segment *slaves) {
     must(!ecat_segment_get(slaves, 0, count, &byte) && !ecat_segment_put(slaves, 0, size, 0), "and no other");
     must(ecat_segment_inputs(slaves, 0, bytes, size - 1) == size && ecat_segment_inputs(slaves, 0, bytes, size) == size, "so are all");
     must(ecat_segment_outputs(slaves, SLAVES, bytes, sizeof bytes) == 0 && ecat_segment_inputs(slaves, SLAVES, bytes, sizeof bytes) == 0, "no such slave");
+    must(ecat_segment_exchange(slaves, 0, bytes, size, again, sizeof again) == count && !memcmp(again, bytes, count), "a step reads them too");
+    must(ecat_segment_exchange(slaves, 0, NULL, 0, NULL, 0) == count, "without room it reads none");
+    must(ecat_segment_exchange(slaves, SLAVES, bytes, size, again, sizeof again) == 0, "no such slave makes a step");
 }
 
 /* The calls that change nothing hand back the pointer that they were given. */

@@ -13,7 +13,7 @@ import sys
 import eeprom
 import models
 from esc import APRD, APRW, APWR, ARMW, BRD, BRW, BWR, ET1100, ET1200, FPRD, FPRW, FPWR, FRMW, LRD, LRW, LWR, NOP, Chip
-from plant import Plant, differences, trespasses
+from plant import Plant, differences, trespasses, unsettled
 from slave import OP, PREOP, SAFEOP, Slave, Smart
 
 TOOLS = pathlib.Path(__file__).resolve().parent.parent
@@ -22,6 +22,7 @@ from bus import Bus, Stumble, fmmu_of, sdo  # noqa: E402
 from bus import Slave as Seen  # noqa: E402
 from masters import Slave as SoemSlave  # noqa: E402
 from masters import soem  # noqa: E402
+from retold import Master  # noqa: E402
 
 COUNT = 0
 
@@ -400,13 +401,110 @@ def check_messages() -> None:
     expect("a message with the counter of the one before is dropped", seen.read(0x080D, 1)[0] & 8, 0)
 
 
-def check_drive() -> None:
-    """The states of CiA 402: switch on disabled, ready to switch on, switched on, operation enabled; and back."""
-    state, seen = models.DISABLED, []
-    for control in (15, 7, 6, 7, 15, 15, 7, 6, 15, 15, 2, 6, 0):
-        state = models.next_state(state, control)
+def check_parameters() -> None:
+    """Downloads that are late, of another length, out of range or read-only; values in four bytes; mailbox errors [AL "SDO services"]."""
+    plant, seen = open_mailbox(models.LateDownload())
+    before, plant.frame_time = plant.now, 0.001
+    expect("a late download", asked(seen, 0x2B, 0x8010, 1, b"\xbc\2"), (0x60, bytes(4)))
+    expect("takes 2 s", 2 <= plant.now - before < 2.01, True)
+    expect("it is stored", plant.devices[0].objects[0x8010, 1], b"\xbc\2")
+    _, seen = open_mailbox(models.RefusesValue())
+    expect("101 of 100", asked(seen, 0x2B, 0x8010, 1, b"\x65\0"), (0x80, bytes.fromhex("30000906")))
+    _, seen = open_mailbox(models.RefusesLength())
+    expect("four bytes for two", asked(seen, 0x23, 0x8010, 1, b"\1\0\0\0"), (0x80, bytes.fromhex("10000706")))
+    _, seen = open_mailbox(models.Wide())
+    expect("a count in four bytes", asked(seen, 0x40, 0x1600, 0), (0x43, b"\1\0\0\0"))
+    _, seen = open_mailbox(models.Erring())
+    expect("a mailbox error", seen.converse(3, sdo(2, 0x40, 0x1018, 1))[:10], bytes.fromhex("040000000010" + "01000200"))
+    plant, seen = open_mailbox(models.FixedOtherwise())
+    expect("a fixed count", asked(seen, 0x40, 0x1C13, 0), (0x4F, b"\2\0\0\0"))
+    expect("its first object", asked(seen, 0x40, 0x1C13, 1), (0x4B, b"\1\x1a\0\0"))
+    expect("it can't be written", asked(seen, 0x2F, 0x1C13, 0, b"\0"), (0x80, bytes.fromhex("02000106")))
+    expect("which is seen", "0x1c13 was written, and is fixed" in unsettled(plant.devices[0]), True)
+
+
+def check_unsettled() -> None:
+    """What is said of parameters that come too late, in another order, or not at all, and of mappings that aren't read behind them."""
+    wanted = [(0x8010, 1, 1), (0x8010, 3, 0xFFFFFFFF), (0x8010, 2, 0xFED4), (0x8010, 1, 2)]
+    unread = ["the mapping 0x1600 wasn't read back", "the mapping 0x1a00 wasn't read back"]
+    plant, seen = open_mailbox(models.Parameters())
+    missing = ["0x8010:1 isn't 2", "0x8010:3 isn't 4294967295", "0x8010:2 isn't 65236"]
+    expect("nothing came", unsettled(plant.devices[0]), [f"init came as [], wanted {wanted}", *missing, *unread])
+    for command, sub, content in ((0x2B, 1, b"\1\0"), (0x23, 3, bytes.fromhex("ffffffff")), (0x2B, 2, b"\xd4\xfe"), (0x2B, 1, b"\2\0")):
+        expect(f"parameter {sub}", asked(seen, command, 0x8010, sub, content), (0x60, bytes(4)))
+    expect("no mapping was read", unsettled(plant.devices[0]), unread)
+    for index in (0x1600, 0x1A00):
+        for sub in (0, 1):
+            asked(seen, 0x40, index, sub)
+    expect("all is as it must be", unsettled(plant.devices[0]), [])
+    asked(seen, 0x2B, 0x8010, 1, b"\1\0")
+    expect("another order", unsettled(plant.devices[0]), ["0x8010:1 became 1", "0x8010:1 isn't 2"])
+    plant, seen = open_mailbox(models.OtherMapping())
+    for sub in (0, 1):
+        asked(seen, 0x40, 0x1A00, sub)
+    for command, index, sub, content in ((0x2F, 0x1C12, 0, b"\0"), (0x2F, 0x1600, 0, b"\0"), (0x23, 0x1600, 1, bytes.fromhex("08010070"))):
+        expect(f"a mapping is written, {index:#x}:{sub}", asked(seen, command, index, sub, content), (0x60, bytes(4)))
+    asked(seen, 0x40, 0x1600, 0)
+    expect("its count comes last", asked(seen, 0x2F, 0x1600, 0, b"\1"), (0x60, bytes(4)))
+    expect("it wasn't read behind that", unsettled(plant.devices[0]), ["the mapping 0x1600 wasn't read back"])
+    expect("the new mapping", asked(seen, 0x40, 0x1600, 1), (0x43, bytes.fromhex("08010070")))
+
+
+def check_states_of_drives() -> None:
+    """CiA 402: switch on disabled, ready to switch on, switched on, operation enabled; back; quick stop; and a fault's reset by an edge."""
+    state, before, seen = models.DISABLED, 0, []
+    for control in (15, 7, 6, 7, 15, 15, 7, 6, 15, 15, 2, 6, 0, 0x86):
+        state, before = models.next_state(state, control, before), control
         seen.append(state)
-    expect("a drive's states", [f"{one:02x}" for one in seen], "40 40 21 23 27 27 23 21 23 27 40 21 40".split())
+    expect("a drive's states", [f"{one:02x}" for one in seen], "40 40 21 23 27 27 23 21 23 27 40 21 40 40".split())
+    rows = ((6, 0, 0x08), (0x80, 0x80, 0x08), (0x80, 0, 0x40), (0x86, 6, 0x40))
+    for control, before, wanted in rows:
+        expect(f"a fault, and {control:#x} behind {before:#x}", models.next_state(models.FAULT, control, before), wanted)
+
+
+def check_drive() -> None:
+    """Messages and cycles of a drive: its mode, its status word, a position that follows by 1000 a cycle, and its fault."""
+    plant, seen = open_mailbox(models.DriveQuick())
+    bus, device = seen.bus, plant.devices[0]
+    pairs = (("0013" + "0020" + "2f606000" + "08000000", "0013" + "0030" + "60606000" + "00000000"),
+             ("0023" + "0020" + "40616000" + "00000000", "0023" + "0030" + "4f616000" + "08000000"),
+             ("0033" + "0020" + "40026500" + "00000000", "0033" + "0030" + "43026500" + "80000000"),
+             ("0043" + "0020" + "2f616000" + "08000000", "0043" + "0020" + "80616000" + "02000106"))
+    for sent, came in pairs:
+        seen.set(0x1000, bytes.fromhex("0a000000" + sent).ljust(256, b"\0"))
+        expect(f"the reply to {sent}", seen.read(0x1200, 256)[:16], bytes.fromhex("0a000000" + came))
+    seen.set(0x0810, bytes.fromhex("0014060064000100" + "0016060020000100"))
+    seen.set(0x0600, fmmu_of(0x10000, 6, 0x1400, 2) + fmmu_of(0x10000, 6, 0x1600, 1))
+    expect("SAFEOP", go(seen, SAFEOP), b"\4\0\0")
+    expect("OP", go(seen, OP), b"\x08\0\0")
+    cycles = (("0600" "00000000", "4002" "00000000"), ("0700" "00000000", "2102" "00000000"), ("0f00" "00000000", "2302" "00000000"),
+              ("0f00" "dc050000", "2712" "00000000"), ("0f00" "dc050000", "2712" "e8030000"), ("0f00" "d4feffff", "2712" "dc050000"),
+              ("0f00" "d4feffff", "2712" "f4010000"), ("0200" "00000000", "2712" "d4feffff"), ("0200" "00000000", "4002" "d4feffff"))
+    for sent, came in cycles:
+        expect(f"what comes back of {sent}", bus.send(LRW, 0x10000, bytes.fromhex(sent)), (bytes.fromhex(came), 3))
+    plant.pass_time(0.15)
+    expect("its watchdog, and its fault", device.looks() | {"pins": ""}, {"state": "SAFEOP+ERROR 001b", "pins": "", "position": "-300", "axis": "08"})
+    expect("its status word in SAFEOP", bus.send(LRW, 0x10000, bytes(6)), (bytes.fromhex("0802" "d4feffff"), 3))
+    expect("acknowledged", go(seen, 0x14), b"\4\0\0")
+    expect("OP again", go(seen, OP), b"\x08\0\0")
+    for sent, came in (("8000" "00000000", "0802" "d4feffff"), ("0000" "00000000", "4002" "d4feffff")):
+        expect(f"a fault's reset, {sent}", bus.send(LRW, 0x10000, bytes.fromhex(sent)), (bytes.fromhex(came), 3))
+    # without mode 8 the position stays
+    plant, seen = open_mailbox(models.DriveQuick())
+    seen.set(0x0810, bytes.fromhex("0014060064000100" + "0016060020000100"))
+    go(seen, SAFEOP)
+    go(seen, OP)
+    for control in ("06", "07", "0f", "0f", "0f"):
+        seen.set(0x1400, bytes.fromhex(control + "00" + "dc050000"))
+    expect("a drive without its mode", seen.read(0x1600, 6), bytes.fromhex("2702" "00000000"))
+
+
+def check_polls() -> None:
+    """How often a master asked for one thing on end."""
+    plant, bus = make(ET1100)
+    for length in (2, 2, 2, 6, 2):
+        bus.physical(BRD, 0, 0x0130, bytes(length))
+    expect("polls", plant.most_polls, 3)
 
 
 def check_outputs_first() -> None:
@@ -431,7 +529,7 @@ def check_outputs_first() -> None:
     go(seen, PREOP)
     go(seen, SAFEOP)
     seen.set(0x0120, b"\x08\0")
-    plant.pass_time(9.1)
+    plant.pass_time(5.1)
     expect("OP is refused", seen.read(0x0130, 6), bytes.fromhex("140000001b00"))
 
 
@@ -439,7 +537,8 @@ def check_soem() -> None:
     """SOEM's start-up as tools/masters retells it, which knows no link table, brings devices up by what their SII and their objects say."""
     SoemSlave.polls = 1000
     kinds = [models.Quick, models.EL3104, models.EL4002, models.EL6001, models.TwoFmmus, models.SiiOfPdi, models.SiiFailed, models.SiiByEight,
-             models.ReadsSii, models.Unsized, models.LateSdo, models.BigMailbox, models.NewerRevision]
+             models.ReadsSii, models.Unsized, models.LateSdo, models.BigMailbox, models.NewerRevision,
+             models.Wide, models.LateDownload, models.FixedFewer, models.Parameters]
     plant = Plant([kind() for kind in kinds])
     plant.frame_time = 0.001
     slaves, _ = soem(Direct(plant), 0)
@@ -447,6 +546,50 @@ def check_soem() -> None:
         bits = {2 + way: sum(pdo.bits for pdo in device.assigned(way)) for way in (0, 1)}
         expect(f"bits of {kind.__name__}", (slave.name, {2: 0, 3: 0} | slave.bits), (kind.__name__, bits))
         expect(f"state of {kind.__name__}", device.looks()["state"], "OP")
+
+
+class Forgetful(Master):
+    """A start-up that leaves parameters out."""
+
+    def talk(self, place: int, kind: type[Slave]) -> None:
+        super().talk(place, type(kind.__name__, (kind,), {"init": (), "own_init": ()}))
+
+
+class Hasty(Master):
+    """A start-up whose parameters come behind its mappings."""
+
+    def talk(self, place: int, kind: type[Slave]) -> None:
+        super().talk(place, type(kind.__name__, (kind,), {"init": (), "own_init": ()}))
+        for index, sub, bits, value in kind.init:
+            self.download(place, index, sub, bits // 8, value % 2**bits)
+
+
+class Writing(Master):
+    """A start-up that writes a fixed assignment."""
+
+    def assign(self, place: int, index: int, chosen: list[int], is_fixed: bool) -> None:
+        super().assign(place, index, chosen, False)
+
+
+class Climbing(Master):
+    """A start-up that sends no outputs before OP."""
+
+    def climb(self, place: int, state: int) -> None:
+        self.sizes[0], size = 0, self.sizes[0]
+        super().climb(place, state)
+        self.sizes[0] = size
+
+
+def check_retold() -> None:
+    """The start-up that is retold ends well; one that leaves a part of it out is found out."""
+    # an EL4002 waits 5 s for outputs, and 1000 polls with their rests take 9.09 s
+    rows = ((Master, models.Parameters, "up", False), (Forgetful, models.Parameters, "up", True), (Hasty, models.LateDownload, "up", True),
+            (Forgetful, models.OtherMapping, "38 Mapping 0 5632 0 2", True), (Writing, models.FixedAssignment, "30 Abort 0 100728834", True),
+            (Climbing, models.EL4002Impatient, "29 AlError 0 27", False), (Climbing, models.EL4002Quick, "29 AlError 0 27", False))
+    for master, kind, end, is_found in rows:
+        plant = Plant([kind()])
+        expect(f"{master.__name__} with {kind.__name__}", master(Direct(plant), plant, [kind]).start_up(), end)
+        expect(f"{kind.__name__} is as it must be", not unsettled(plant.devices[0]), not is_found)
 
 
 def check_models() -> int:

@@ -78,8 +78,14 @@ class Coe(Smart):
     # messages that it sends as it enters PREOP, and whenever it has nothing else to send
     greetings: tuple[tuple[int, bytes], ...] = ()
     is_chatty = False
-    # it takes no message; it gives no reply; its replies name another index; an upload's reply doesn't say its size
-    is_deaf = is_mute = is_wrong = is_unsized = False
+    # it takes no message; it gives no reply; its replies name another index; it answers by a mailbox error
+    is_deaf = is_mute = is_wrong = is_erring = False
+    # an upload's reply doesn't say its size; it brings four bytes of a shorter value
+    is_unsized = is_wide = False
+    # objects that show another's value: index and subindex to the other's
+    shown: dict[tuple[int, int], tuple[int, int]] = {}
+    # the highest value that an object takes
+    highest: dict[tuple[int, int], int] = {}
 
     def begin(self) -> None:
         super().begin()
@@ -93,8 +99,11 @@ class Coe(Smart):
                 self.rows[index] = Row(list(indices), 2)
         self.replies: list[tuple[float, bytes]] = []
         self.counter = self.heard = 0
-        # what masters changed: index and subindex, with the value
+        # what masters changed: index and subindex, with the value; and what they tried to
         self.downloads: list[tuple[int, int, int]] = []
+        self.tried: list[tuple[int, int]] = []
+        # each transfer that was done, in order: the state, whether it was a download, index and subindex
+        self.transfers: list[tuple[int, bool, int, int]] = []
 
     def usual(self) -> dict[tuple[int, int], tuple[int, int]]:
         """Objects that each device has: type, identity, what the managers are for [AL "Object dictionary"]."""
@@ -153,7 +162,7 @@ class Coe(Smart):
             return
         self.heard = kind >> 4
         body = message[6 : 6 + length]
-        if kind & 15 != COE:
+        if kind & 15 != COE or self.is_erring:
             self.say(MAILBOX_ERROR, struct.pack("<HH", 1, 2))
         elif len(body) < 10:
             self.say(MAILBOX_ERROR, struct.pack("<HH", 1, 6))
@@ -180,16 +189,22 @@ class Coe(Smart):
         if command & 0x10:
             raise Abort(BAD_ACCESS)
         if kind == 2:
-            return self.uploaded(self.upload(index, sub))
+            value = self.upload(index, sub)
+            self.transfers.append((self.state, False, index, sub))
+            return self.uploaded(value)
         if kind != 1:
             raise Abort(BAD_COMMAND)
+        self.tried.append((index, sub))
         self.download(index, sub, content_of(command, content))
+        self.transfers.append((self.state, True, index, sub))
         return 0x60, b""
 
     def uploaded(self, value: bytes) -> tuple[int, bytes]:
         """The answer to an upload: expedited up to four bytes, else normal [AL "SDO upload"]. A device may leave out the size."""
         if len(value) > 4:
             return 0x41, struct.pack("<I", len(value)) + value
+        if self.is_wide:
+            return 0x43, value.ljust(4, b"\0")
         return 0x42 if self.is_unsized else 0x43 | (4 - len(value)) << 2, value
 
     # ---- the dictionary
@@ -197,6 +212,8 @@ class Coe(Smart):
     def upload(self, index: int, sub: int) -> bytes:
         if index in self.rows:
             return self.rows[index].upload(sub)
+        if (index, sub) in self.shown:
+            return self.objects[self.shown[index, sub]]
         if (index, sub) in self.objects:
             return self.objects[index, sub]
         raise Abort(NO_SUBINDEX if any(index == known for known, _ in self.objects) else NO_OBJECT)
@@ -207,6 +224,8 @@ class Coe(Smart):
         elif (index, sub) in self.settings:
             if len(data) != len(self.objects[index, sub]):
                 raise Abort(BAD_LENGTH)
+            if int.from_bytes(data, "little") > self.highest.get((index, sub), 0xFFFFFFFF):
+                raise Abort(BAD_VALUE)
             self.objects[index, sub] = data
         else:
             self.upload(index, sub)

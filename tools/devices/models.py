@@ -116,13 +116,20 @@ class EL3104Compact(EL3104):
     assigns = ((), (0x1A01, 0x1A03, 0x1A05, 0x1A07))
 
 
+class EL3104Filtered(EL3104):
+    """The same with a filter at its first channel, which is a parameter: switched on, and its kind (?)."""
+
+    settings = {(0x8000, 0x06): (0, 1), (0x8000, 0x15): (0, 2)}
+    init = ((0x8000, 0x06, 8, 1), (0x8000, 0x15, 16, 2))
+
+
 class EL4002(Coe):
-    """Two analog outputs. It enters OP once it has received outputs in SAFEOP, and waits 9 s for them."""
+    """Two analog outputs. It enters OP once it has received outputs in SAFEOP, and waits 5 s for them (SSC's default is 9 s)."""
 
     product, revision = 0x0FA23052, 0x00140000
     outputs = (Pdo(0x1600, ((0x7000, 1, 16),)), Pdo(0x1601, ((0x7010, 1, 16),)))
     variables = (Variable("first", ((0x7000, 1),), 0x1234), Variable("second", ((0x7010, 1),), 0x8001))
-    delays, patience = SLOW, 9.0
+    delays, patience = SLOW, 5.0
 
 
 class EL4002Quick(EL4002):
@@ -150,7 +157,7 @@ class EL6001(Coe):
     variables = (
         Variable("control", ((0x7000, 1),), 0x0101), Variable("sent", ((0x7000, 17), (0x7000, 38)), 0x5AA5),
         Variable("status", ((0x6000, 1),), 0x0201), Variable("received", ((0x6000, 17), (0x6000, 38)), 0xC33C))
-    patience = 9.0
+    patience = 5.0
 
 
 class EL6224(Coe):
@@ -257,11 +264,31 @@ class Seconds(Quick):
     delays = {PREOP: 2.0, SAFEOP: 3.0}
 
 
+class LateDownload(Quick):
+    """It takes 2 s to answer the download of a parameter, which it stores."""
+
+    product = 0x0120
+    settings, init, late = {(0x8010, 1): (0, 2)}, ((0x8010, 1, 16, 700),), {(0x8010, 1): 2.0}
+
+
+class NeverDone(LateDownload):
+    """It takes 20 s, which is longer than a master waits: 1000 polls with their rests are about 9 s."""
+
+    product, late = 0x0121, {(0x8010, 1): 20.0}
+
+
 class Unsized(Quick):
     """The reply to an upload doesn't say how many of its bytes are the value's."""
 
     product = 0x010C
     is_unsized = True
+
+
+class Wide(Quick):
+    """Its uploads bring four bytes of each value, also of a count."""
+
+    product = 0x0122
+    is_wide = True
 
 
 class Deaf(Quick):
@@ -278,11 +305,33 @@ class WrongIndex(Quick):
     is_wrong = True
 
 
+class Erring(Quick):
+    """It answers each request by a mailbox error: the protocol isn't supported [DL "Mailbox structure"]."""
+
+    product = 0x0123
+    is_erring = True
+
+
 class FixedAssignment(Quick):
     """Its assignment can't be written."""
 
     product = 0x010F
     fixed = True
+
+
+class FixedOtherwise(Quick):
+    """Its assignment can't be written, and has the objects of its table in another order."""
+
+    product = 0x0124
+    outputs, fixed, delivered = (), True, ((), (0x1A01, 0x1A00))
+    inputs = (Pdo(0x1A00, ((0x6000, 1, 16),)), Pdo(0x1A01, ((0x6010, 1, 16),)))
+    variables = (Variable("force", ((0x6000, 1),), 0xBEEF),)
+
+
+class FixedFewer(FixedOtherwise):
+    """The same with one of them."""
+
+    product, delivered = 0x0125, ((), (0x1A00,))
 
 
 class OtherMapping(Quick):
@@ -291,6 +340,37 @@ class OtherMapping(Quick):
     product = 0x0110
     maps, mapped = True, {0x1600: ((0x7001, 1, 8), (0x7001, 2, 8))}
     init = ((0x1C12, 0, 8, 0), (0x1600, 0, 8, 0), (0x1600, 1, 32, 0x70000108), (0x1600, 0, 8, 1))
+
+
+class Parameters(Quick):
+    """Parameters of its type, and behind them those of the slave, of which one is the same object and one a negative number."""
+
+    product = 0x0126
+    settings = {(0x8010, 1): (0, 2), (0x8010, 2): (0, 2), (0x8010, 3): (0, 4)}
+    init = ((0x8010, 1, 16, 1), (0x8010, 3, 32, -1))
+    own_init = ((0x8010, 2, 16, -300), (0x8010, 1, 16, 2))
+
+
+class ManyParameters(Quick):
+    """As many parameters as a type may have: 64."""
+
+    product = 0x0127
+    settings = {(0x8020, sub): (0, 1) for sub in range(1, 65)}
+    init = tuple((0x8020, sub, 8, 255 - sub) for sub in range(1, 65))
+
+
+class TooManyParameters(ManyParameters):
+    """One more."""
+
+    product = 0x0128
+    init = (*ManyParameters.init, (0x8020, 64, 8, 0))
+
+
+class FixedWithParameters(FixedAssignment):
+    """An assignment that can't be written, emergencies, late replies and a parameter in one device."""
+
+    product, greetings, late = 0x0129, Emergencies.greetings, {(0x1C12, 1): 0.3, (0x8010, 1): 0.3}
+    settings, init = {(0x8010, 1): (0, 2)}, ((0x8010, 1, 16, 700),)
 
 
 class BigMailbox(Quick):
@@ -383,14 +463,31 @@ class Refuses(Quick):
     init = ((0x6060, 0, 8, 8),)
 
 
+class RefusesValue(Quick):
+    """It has the object, and doesn't take the value."""
+
+    product = 0x012A
+    settings, highest, init = {(0x8010, 1): (0, 2)}, {(0x8010, 1): 100}, ((0x8010, 1, 16, 101),)
+
+
+class RefusesLength(Quick):
+    """The object is shorter than its table says."""
+
+    product = 0x012B
+    settings, init = {(0x8010, 1): (0, 2)}, ((0x8010, 1, 32, 1),)
+
+
 # ---- drives
 
 
-# states of CiA 402 by their status word [IEC 61800-7-201, "Finite state automaton"], and a status word's bit "remote"
-DISABLED, READY_TO_SWITCH, SWITCHED_ON, ENABLED = 0x0040, 0x0021, 0x0023, 0x0027
-REMOTE = 0x0200
-# cyclic synchronous position, and the most that the position changes by a cycle
-CSP, STRIDE = 8, 1000
+# States of CiA 402 by their status word, of which these bits say them [IEC 61800-7-201, "Statusword": xxxx xxxx x01x 0111 is "operation
+# enabled"], and its bits "remote" and, in cyclic modes, "drive follows the command value".
+DISABLED, READY_TO_SWITCH, SWITCHED_ON, ENABLED, FAULT = 0x0040, 0x0021, 0x0023, 0x0027, 0x0008
+STATE_BITS, REMOTE, FOLLOWS = 0x006F, 0x0200, 0x1000
+# cyclic synchronous position, the modes that there are (that bit alone), and the most that the position changes by a cycle
+CSP, MODES, STRIDE = 8, 1 << 7, 1000
+# the control word's bits: a rising edge of the last resets a fault
+RESETS = 0x0080
 
 
 class Drive(Coe):
@@ -404,46 +501,67 @@ class Drive(Coe):
     variables = (
         Variable("control", ((0x6040, 0),), 0), Variable("target", ((0x607A, 0),), 0),
         Variable("status", ((0x6041, 0),), 0), Variable("position", ((0x6064, 0),), 0))
+    # mode of operation, interpolation time 1 * 10^-3 s, and the modes that there are; 0x6061 shows the mode [IEC 61800-7-201]
     settings = {(0x6060, 0): (0, 1), (0x60C2, 1): (1, 1)}
+    shown = {(0x6061, 0): (0x6060, 0)}
     init = ((0x6060, 0, 8, CSP), (0x60C2, 1, 8, 2))
-    delays, patience, sdo_time = {PREOP: 0.3, SAFEOP: 0.05}, 9.0, 0.004
+    delays, patience, sdo_time = {PREOP: 0.3, SAFEOP: 0.05}, 5.0, 0.004
+    # in cyclic modes other bits of the status word may be set, so its state is looked at
     script = (
-        "set {}_control 6", "repeat 2 cycle", "expect {}_status 0x221", "set {}_control 7", "repeat 2 cycle", "expect {}_status 0x223",
-        "set {}_control 15", "repeat 2 cycle", "expect {}_status 0x227", "set {}_target 4711", "repeat 8 cycle", "expect {}_position 4711",
-        "plant {} position 4711", "set {}_target -300", "repeat 8 cycle", "expect {}_position -300", "plant {} position -300")
+        "set {}_control 6", "repeat 2 cycle", "expect {}_status & 0x6F == 0x21", "set {}_control 7", "repeat 2 cycle",
+        "expect {}_status & 0x6F == 0x23", "set {}_control 15", "repeat 2 cycle", "expect {}_status & 0x6F == 0x27",
+        "set {}_target 4711", "repeat 8 cycle", "expect {}_position 4711", "plant {} position 4711", "set {}_target -300",
+        "repeat 8 cycle", "expect {}_position -300", "plant {} position -300", "plant {} axis 27")
 
     def begin(self) -> None:
         super().begin()
-        self.axis, self.position = DISABLED, 0
+        self.axis, self.position, self.control = DISABLED, 0, 0
+
+    def usual(self) -> dict[tuple[int, int], tuple[int, int]]:
+        return super().usual() | {(0x6502, 0): (MODES, 4)}
 
     def follow(self) -> None:
         """A control word and a target came in OP."""
-        control, target = struct.unpack("<Hi", self.outside)
-        self.axis = next_state(self.axis, control)
-        if self.axis == ENABLED and self.objects[0x6060, 0] == bytes([CSP]):
+        before, (self.control, target) = self.control, struct.unpack("<Hi", self.outside)
+        self.axis = next_state(self.axis, self.control, before)
+        if self.follows():
             self.position += max(-STRIDE, min(STRIDE, target - self.position))
 
+    def follows(self) -> bool:
+        return self.axis == ENABLED and self.objects[0x6060, 0] == bytes([CSP])
+
     def enter(self, state: int) -> None:
+        """Out of OP nothing moves. A fault stays until it is reset."""
         super().enter(state)
         if state != OP:
-            self.axis = DISABLED
+            self.axis, self.control = (self.axis if self.axis == FAULT else DISABLED), 0
+
+    def fall(self, code: int) -> None:
+        """Without outputs it has a fault [IEC 61800-7-201, transition 13 and, once it stands still, 14]."""
+        super().fall(code)
+        self.axis = FAULT
 
     def measured(self) -> bytes:
-        return struct.pack("<Hi", self.axis | REMOTE, self.position)
+        return struct.pack("<Hi", self.axis | REMOTE | FOLLOWS * self.follows(), self.position)
 
     def looks(self) -> dict[str, str]:
-        return super().looks() | {"position": str(self.position)}
+        return super().looks() | {"position": str(self.position), "axis": f"{self.axis:02x}"}
 
 
-def next_state(state: int, control: int) -> int:
-    """The state behind a control word: disable voltage, shutdown, switch on, enable operation [IEC 61800-7-201]."""
-    if control & 0x82 == 0 or control & 0x86 == 2:
+def next_state(state: int, control: int, before: int = 0) -> int:
+    """The state behind a control word and the one before it: fault reset, disable voltage, quick stop, shutdown, switch on, enable
+    operation [IEC 61800-7-201, "Controlword", "Finite state automaton"]."""
+    if state == FAULT:
+        return DISABLED if control & RESETS and not before & RESETS else FAULT
+    if control & RESETS:
+        return state
+    if control & 0x02 == 0 or control & 0x06 == 2:
         return DISABLED
-    if control & 0x87 == 6:
+    if control & 0x07 == 6:
         return READY_TO_SWITCH
-    if control & 0x8F == 7 and state in (READY_TO_SWITCH, ENABLED):
+    if control & 0x0F == 7 and state in (READY_TO_SWITCH, ENABLED):
         return SWITCHED_ON
-    if control & 0x8F == 15 and state in (READY_TO_SWITCH, SWITCHED_ON):
+    if control & 0x0F == 15 and state in (READY_TO_SWITCH, SWITCHED_ON):
         return SWITCHED_ON if state == READY_TO_SWITCH else ENABLED
     return state
 
@@ -452,6 +570,25 @@ class DriveQuick(Drive):
     """The same without waits, and OP needs no outputs: so only its mode is missing."""
 
     delays, patience, sdo_time = {}, None, 0.0
+
+
+class DriveRemapped(Drive):
+    """As delivered it maps a speed and not a position; its mapping is written by its table, as masters do for drives: the assignment is
+    emptied, the objects are rewritten, and their counts come last [IEC 61800-7-301; IgH `ecrt_slave_config_pdos`]."""
+
+    product, maps = 0x0404, True
+    mapped = {0x1600: ((0x6040, 0, 16), (0x60FF, 0, 32)), 0x1A00: ((0x6041, 0, 16), (0x606C, 0, 32))}
+    init = (
+        (0x1C12, 0, 8, 0), (0x1C13, 0, 8, 0), (0x1600, 0, 8, 0), (0x1600, 1, 32, 0x60400010), (0x1600, 2, 32, 0x607A0020), (0x1600, 0, 8, 2),
+        (0x1A00, 0, 8, 0), (0x1A00, 1, 32, 0x60410010), (0x1A00, 2, 32, 0x60640020), (0x1A00, 0, 8, 2), *Drive.init)
+
+
+class DriveShouting(Drive):
+    """It shouts emergencies as it enters PREOP: under-voltage, and that its motor is missing; and takes 0.5 s for the first reply."""
+
+    product = 0x0405
+    greetings = (emergency(0x3220, 0x04), emergency(0x7300, 0x20, b"motor"))
+    late = {(0x6060, 0): 0.5}
 
 
 class DriveByClocks(DriveQuick):

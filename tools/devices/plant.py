@@ -11,13 +11,15 @@ import struct
 
 from coe import INPUTS_ASSIGNED, OUTPUTS_ASSIGNED, Coe
 from esc import DL_STATUS, FRMW, Map
-from slave import OP, Slave, bytes_of
+from slave import OP, PREOP, Slave, bytes_of
 
 FRAME_TIME, SILENCE, LONGEST, RESTS = 20e-6, 0.008, 0.012, 5
 HEADER, OVERHEAD = 2, 12
 # registers that a start-up may write: station addresses, AL control, owner, command and address of the SII, FMMUs, sync managers, and in
 # a table for hardware as many of the last two as a controller may have
 WRITTEN = {*range(0x0010, 0x0012), *range(0x0120, 0x0122), 0x0500, *range(0x0502, 0x0508), *range(0x0600, 0x0700), *range(0x0800, 0x0880)}
+# a wait of a start-up has at most so many polls
+POLLS = 1000
 # commands that a start-up may give to the SII: clear an error, and read
 SII_COMMANDS = {0x0000, 0x0100}
 
@@ -68,6 +70,8 @@ class Plant:
 
     def __init__(self, devices: list[Slave]) -> None:
         self.devices, self.now, self.frames, self.others, self.silences = devices, 0.0, 0, 0, 0
+        # the last datagram of the frame before, how often it came one after the other, and the most that any did
+        self.asked, self.polls, self.most_polls = None, 0, 0
         for place, device in enumerate(devices):
             # DL status: the PDI runs; a link with communication at port 0, and at port 1 if another follows [ESC 0x0110]
             device.esc.put_word(DL_STATUS, 0x5A31 if place + 1 < len(devices) else 0x5611)
@@ -82,6 +86,12 @@ class Plant:
         for device in self.devices:
             device.tick(self.now)
 
+    def count(self, one: Datagram) -> None:
+        """A frame is a poll again if its last datagram reads what that of the frame before did."""
+        asked = one.command, one.first, one.address, one.count
+        self.polls = self.polls + 1 if asked == self.asked else 1
+        self.asked, self.most_polls = asked, max(self.most_polls, self.polls)
+
     def answer(self, payload: bytes, silence: float = 0.0) -> bytes | None:
         """What comes back of a payload behind such a silence, or nothing if it is no frame."""
         found = datagrams_of(payload)
@@ -89,6 +99,7 @@ class Plant:
             self.others += 1
             return None
         self.frames += 1
+        self.count(found[-1])
         self.silences = self.silences + 1 if silence > SILENCE else 0
         self.tick(min(silence, LONGEST) if self.silences > RESTS else self.frame_time)
         for device in self.devices:
@@ -118,10 +129,14 @@ def trespasses(device: Slave) -> list[str]:
     return found + (unasked(device) if isinstance(device, Coe) else [])
 
 
+def wanted_init(device: Coe) -> list[tuple[int, int, int]]:
+    """The downloads that its table for hardware asks for, in their order: those of its type, then its own."""
+    return [(index, sub, value % 2**bits) for index, sub, bits, value in (*device.init, *device.own_init)]
+
+
 def unasked(device: Coe) -> list[str]:
     """Downloads that its link table doesn't ask for."""
-    init = {(index, sub, value % 2**bits) for index, sub, bits, value in device.init}
-    own = (OUTPUTS_ASSIGNED, INPUTS_ASSIGNED)
+    init, own = wanted_init(device), (OUTPUTS_ASSIGNED, INPUTS_ASSIGNED)
     return [f"0x{index:04x}:{sub} became {value}" for index, sub, value in device.downloads if index not in own and (index, sub, value) not in init]
 
 
@@ -134,6 +149,40 @@ def differences(device: Slave) -> list[str]:
     for way, title in enumerate(("outputs", "inputs")):
         found += areas(device, way, title)
     return found + strangers(device)
+
+
+def unsettled(device: Slave) -> list[str]:
+    """What isn't as a table for hardware asks of the objects of a device that is up.
+
+    Parameters come in PREOP, each as often as the table has it and in its order [ETG.2000 "InitCmd", transition PS; SOEM `PO2SOconfig`;
+    IgH `ecrt_slave_config_sdo`], before mappings are read back, since they may write them; so each object has its last value. A fixed
+    assignment isn't written, and read [ETG.2000 "PdoAssign"]. What the device had to say was taken out of its mailbox."""
+    if not isinstance(device, Coe):
+        return []
+    wanted, own = wanted_init(device), (OUTPUTS_ASSIGNED, INPUTS_ASSIGNED)
+    came = [one for one in device.downloads if one in wanted]
+    found = [] if device.downloads[: len(wanted)] == wanted else [f"init came as {came}, wanted {wanted}"]
+    found += [f"0x{index:04x}:{sub} became {value}" for index, sub, value in device.downloads[len(wanted) :] if index not in own]
+    found += [f"0x{index:04x}:{sub} was transferred in state {state}" for state, _, index, sub in device.transfers if state != PREOP]
+    for (index, sub), value in {(index, sub): value for index, sub, value in wanted if index not in device.rows}.items():
+        if int.from_bytes(device.upload(index, sub), "little") != value:
+            found.append(f"0x{index:04x}:{sub} isn't {value}")
+    return found + unread(device) + ["it has more to say"] * bool(device.replies and not device.is_chatty)
+
+
+def unread(device: Coe) -> list[str]:
+    """Mappings that weren't read whole behind the last download to them, and what is wrong with a fixed assignment."""
+    done, found = device.transfers, []
+    for pdo in (*device.chosen(0), *device.chosen(1)):
+        last = max((place for place, one in enumerate(done) if one[1] and one[2] == pdo.index), default=-1)
+        read = {sub for _, is_download, index, sub in done[last + 1 :] if index == pdo.index and not is_download}
+        found += [] if read >= set(range(len(pdo.entries) + 1)) else [f"the mapping 0x{pdo.index:04x} wasn't read back"]
+    for way, index in enumerate((OUTPUTS_ASSIGNED, INPUTS_ASSIGNED) if device.fixed else ()):
+        read = {sub for _, is_download, at, sub in done if at == index and not is_download}
+        found += [f"0x{index:04x} was written, and is fixed"] if any(at == index for at, _ in device.tried) else []
+        if device.chosen(way) and not read >= set(range(len(device.chosen(way)) + 1)):
+            found.append(f"the assignment 0x{index:04x} wasn't read")
+    return found
 
 
 def areas(device: Slave, way: int, title: str) -> list[str]:

@@ -19,7 +19,7 @@ MORE: dict[str, tuple[str, ...]] = {
     # the watchdog switches the pins off, and the state stays; the next cycle brings them back [ESC 0x0420]
     "EL2008": ("silence 90", "plant el2008 pins c5", "silence 200", "plant el2008 pins 00", "plant el2008 state OP", "cycle", "plant el2008 pins c5"),
     # EL4002's manager feeds no watchdog by its control byte 0x24, a drive's does by 0x64: it falls back
-    "Drive": ("silence 200", "cycle", "plant drive state SAFEOP+ERROR 001b"),
+    "Drive": ("silence 200", "cycle", "plant drive state SAFEOP+ERROR 001b", "plant drive axis 08"),
     "EL4002": ("silence 200", "cycle", "plant el4002 pins 34120180"),
 }
 # rows of several devices; each device also is a row of its own
@@ -27,7 +27,10 @@ SEVERAL: dict[str, list[type[Slave]]] = {
     "digital": [models.EK1100, models.EL1008, models.EL2008],
     "branches": [models.EK1100, models.EL2008, models.EK1122, models.EL1008, models.EL2008, models.EL1008],
     "machine": [models.EK1100, models.EL1008, models.EL2008, models.EL3104, models.EL4002, models.Drive],
-    "odd": [models.Quick, models.LeftInOp, models.TwoFmmus, models.NoLrw, models.LeftInSafeop, models.ThreeFmmus, models.SiiByEight, models.LeftInBoot],
+    "drives": [models.EK1100, models.Drive, models.DriveRemapped, models.DriveShouting],
+    "parameters": [models.Parameters, models.EL3104Filtered, models.FixedWithParameters],
+    "odd": [models.Quick, models.LeftInOp, models.TwoFmmus, models.NoLrw, models.LeftInSafeop, models.ThreeFmmus, models.SiiByEight,
+            models.LeftInBoot],
     "nibbles": [models.Nibble, models.Nibble],
     # as many slaves as there may be, each with a mailbox
     "many": [models.Quick] * 64,
@@ -40,11 +43,10 @@ EXPECTED: dict[str, str] = {
     # a table can't say the register of the pins; in RAM nothing lights up
     "EL2008": "25 OutsideRam 0",
     "EL2008Elsewhere": "up, but pins 00, wanted c5; no manager has the outputs at 0x0f00; no FMMU has the outputs at 0x0f00",
-    # PREOP takes longer than 1000 polls
-    "EL3102": "31 TooSlow 16", "EL3104": "31 TooSlow 16", "EL3104Compact": "31 TooSlow 16", "EL4002": "31 TooSlow 16",
-    "Seconds": "31 TooSlow 16", "Drive": "31 TooSlow 16",
-    # outputs don't come before OP
-    "EL4002Quick": "31 TooSlow 38", "EL4002Impatient": "29 AlError 0 27", "EL6001": "31 TooSlow 132",
+    # polls of a wait rest, and so last 9 s
+    **dict.fromkeys(("EL3102", "EL3104", "EL3104Compact", "EL3104Filtered", "Seconds", "LateSdo", "LateDownload", "NeverDone"), "up"),
+    # outputs don't come before OP: the device gives up after 5 s (0x001B), or at once
+    **dict.fromkeys(("EL4002", "EL4002Quick", "EL4002Impatient", "EL6001", "Drive"), "29 AlError 0 27"),
     "EL6224": "13 BadValue 1 0",
     "Quick": "up", "NoLrw": "up", "TwoFmmus": "up", "ThreeFmmus": "up",
     "LeftFmmu": "up, but unmet `expect taken`; 2 FMMUs are active, wanted 1",
@@ -52,10 +54,15 @@ EXPECTED: dict[str, str] = {
     "Bare": "28 Counter 3",
     # a message that nobody asked for is taken for the reply
     "Emergencies": "9 BadMailbox 0", "Chatty": "9 BadMailbox 0", "EndlessEmergencies": "9 BadMailbox 0", "OtherProtocol": "9 BadMailbox 0",
-    "LateSdo": "31 TooSlow 22", "Deaf": "31 TooSlow 18", "WrongIndex": "9 BadMailbox 0", "Unsized": "9 BadMailbox 0",
+    "Deaf": "31 TooSlow 18", "WrongIndex": "9 BadMailbox 0", "Unsized": "9 BadMailbox 0",
+    "Wide": "9 BadMailbox 0", "Erring": "9 BadMailbox 0", "FixedWithParameters": "9 BadMailbox 0", "DriveShouting": "9 BadMailbox 0",
     # 0x06010002: the object can only be read
-    "FixedAssignment": "30 Abort 0 100728834",
-    "OtherMapping": "38 Mapping 0 5632 0 2",
+    "FixedAssignment": "30 Abort 0 100728834", "FixedOtherwise": "30 Abort 0 100728834", "FixedFewer": "30 Abort 0 100728834",
+    # parameters can't be said, and aren't needed
+    "Parameters": "up", "ManyParameters": "up", "TooManyParameters": "up", "RefusesValue": "up",
+    "RefusesLength": "up",
+    # two entries where one is wanted; the second is 0x60FF0020, a speed
+    "OtherMapping": "38 Mapping 0 5632 0 2", "DriveRemapped": "38 Mapping 0 5632 2 1627324448",
     "BigMailbox": "up",
     "NewerRevision": "27 Identity 0 1445 274 4",
     "SiiOfPdi": "27 Identity 0 0 0 0", "SiiFailed": "27 Identity 0 0 0 0", "SiiByEight": "up", "ReadsSii": "29 AlError 0 80",
@@ -72,16 +79,32 @@ EXPECTED: dict[str, str] = {
     "DriveByClocks": "29 AlError 0 48",
     "digital": "25 OutsideRam 2", "branches": "25 OutsideRam 1", "machine": "25 OutsideRam 2",
     "odd": "up", "many": "up",
+    "drives": "31 TooSlow 2", "parameters": "9 BadMailbox 2",
 }
-# the end of each row with its table for hardware: NO_KEYS as long as the master doesn't know the keys, but for these rows
-NO_KEYS = "12 BadKey 0 0"
-EXPECTED_HARDWARE: dict[str, str] = {}
+# the end with a table for hardware where it isn't yet the goal: the master doesn't know the keys `init` and `fixed` of a type
+NO_KEYS = "12 BadKey 1 0"
+EXPECTED_HARDWARE: dict[str, str] = {
+    **dict.fromkeys((
+        "EL3104Filtered", "LateDownload", "NeverDone", "FixedAssignment", "FixedOtherwise", "FixedFewer", "OtherMapping", "Parameters",
+        "ManyParameters", "TooManyParameters", "FixedWithParameters", "Refuses", "RefusesValue", "RefusesLength", "Drive", "DriveQuick",
+        "DriveRemapped", "DriveShouting", "DriveByClocks", "parameters"), NO_KEYS),
+    "drives": "12 BadKey 1 1", "machine": "12 BadKey 1 5",
+    # what nobody asked for is taken for the reply, and an upload of another size isn't taken
+    **dict.fromkeys(("Emergencies", "Chatty", "EndlessEmergencies", "OtherProtocol", "Unsized", "Wide", "Erring"), "9 BadMailbox 0"),
+}
 # the end that a table for hardware shall come to: `up`, but for these rows
 GOALS: dict[str, str] = {
     # entries of over 64 bits, and managers over 3, can't be said
     "EL6224": "13 BadValue 1 0", "FourthManager": "13 BadValue 1 0",
-    # no reply comes, or none to the request; the object isn't there (0x06020000)
-    "Deaf": "31 TooSlow 23", "EndlessEmergencies": "31 TooSlow 23", "WrongIndex": "9 BadMailbox 0", "Refuses": "30 Abort 0 100794368",
+    # no reply to the first request comes, which step 22 sends, or one to another object
+    "Deaf": "31 TooSlow 23", "EndlessEmergencies": "31 TooSlow 23", "Erring": "31 TooSlow 23", "NeverDone": "31 TooSlow 23",
+    "WrongIndex": "9 BadMailbox 0",
+    # a parameter is aborted: no such object (0x06020000), a value out of range (0x06090030), a length that doesn't match (0x06070010)
+    "Refuses": "30 Abort 0 100794368", "RefusesValue": "30 Abort 0 101253168", "RefusesLength": "30 Abort 0 101122064",
+    # a fixed assignment: its first object is 0x1A01; it has one
+    "FixedOtherwise": "38 Mapping 0 7187 1 6657", "FixedFewer": "38 Mapping 0 7187 0 1",
+    # 65 parameters
+    "TooManyParameters": "13 BadValue 1 0",
     # there are no distributed clocks
     "DriveByClocks": "29 AlError 0 48",
     # a real slave goes on counting in SAFEOP
@@ -91,7 +114,7 @@ GOALS: dict[str, str] = {
 
 def expected(name: str) -> tuple[str, str]:
     """The ends of a row: with a table of today's keys, and with one for hardware."""
-    return EXPECTED.get(name, "an end in rows.py"), EXPECTED_HARDWARE.get(name, NO_KEYS)
+    return EXPECTED.get(name, "an end in rows.py"), EXPECTED_HARDWARE.get(name, goal(name))
 
 
 def goal(name: str) -> str:

@@ -95,8 +95,9 @@ class Slave:
     assigns: tuple[tuple[int, ...], tuple[int, ...]] | None = None
     told_revision: int | None = None
     told_out_start: int | None = None
-    # of a table for hardware alone: SDO downloads, and that the revision doesn't matter
+    # of a table for hardware alone: SDO downloads of the type, those of the slave behind them, and that the revision doesn't matter
     init: tuple[tuple[int, int, int, int], ...] = ()
+    own_init: tuple[tuple[int, int, int, int], ...] = ()
     fixed = any_revision = False
     # lines of its trial, in which `{}` is its name; without any its variables are set and expected
     script: tuple[str, ...] | None = None

@@ -25,7 +25,7 @@ def table_of(kinds: list[type[Slave]], is_hardware: bool) -> str:
     for kind in dict.fromkeys(kinds):
         lines += ["", *type_lines(kind, is_hardware)]
     for name, kind in zip(names, kinds):
-        lines += ["", *slave_lines(name, kind)]
+        lines += ["", *slave_lines(name, kind, is_hardware)]
     for name, kind in zip(names, kinds):
         for variable in kind.variables:
             lines += ["", *variable_lines(name, kind, variable)]
@@ -57,9 +57,14 @@ def hardware_lines(kind: type[Slave]) -> list[str]:
         lines.append("firmware = false")
     if kind.fixed:
         lines.append("fixed = true")
-    if kind.init:
-        lines.append("init = [" + ", ".join(f"[0x{index:04X}, {sub}, {bits}, {value}]" for index, sub, bits, value in kind.init) + "]")
+    lines += init_lines(kind.init)
     return [line + MARK for line in lines]
+
+
+def init_lines(init: tuple[tuple[int, int, int, int], ...]) -> list[str]:
+    if not init:
+        return []
+    return ["init = [" + ", ".join(f"[0x{index:04X}, {sub}, {bits}, {value}]" for index, sub, bits, value in init) + "]"]
 
 
 def object_lines(key: str, pdos: tuple[Pdo, ...]) -> list[str]:
@@ -73,13 +78,13 @@ def entry_text(index: int, sub: int, bits: int) -> str:
     return f"[0x{index:04X}, {sub}, {bits}]" if index else f"[0, 0, {bits}]"
 
 
-def slave_lines(name: str, kind: type[Slave]) -> list[str]:
+def slave_lines(name: str, kind: type[Slave], is_hardware: bool) -> list[str]:
     lines = ["[[slave]]", f'name = "{name}"', f'type = "{kind.__name__}"']
     if kind.assigns:
         for key, pdos, indices in (("out", kind.outputs, kind.assigns[0]), ("in", kind.inputs, kind.assigns[1])):
             if pdos:
                 lines.append(f"{key} = [{', '.join(f'0x{index:04X}' for index in indices)}]")
-    return lines
+    return lines + ([line + MARK for line in init_lines(kind.own_init)] if is_hardware else [])
 
 
 def variable_lines(name: str, kind: type[Slave], variable: Variable) -> list[str]:

@@ -10,6 +10,8 @@ import sys
 import ecat
 
 PANEL, PRESS = 0, 1
+# the place of a frame's second datagram, and commands there
+ASKING, LWR, LRW = 24, 11, 12
 
 
 def must(holds, what):
@@ -26,6 +28,32 @@ def fails(table, slaves):
         except ecat.Failed as failure:
             return failure
     sys.exit("calls: the start-up must fail")
+
+
+def polls_among_outputs(real):
+    """Slaves whose firmware stops as the first outputs come are polled for OP: each poll but the first is one, and no frame of outputs."""
+    with ecat.Master(real) as m, ecat.Segment(real) as slaves:
+        polls = outputs = 0
+        while polls < 5 and (frame := m.next()):
+            writes = frame[ASKING] in (LWR, LRW)
+            outputs += writes
+            must(not (writes and m.waits()), "a frame of outputs is no poll")
+            polls += outputs > 0 and m.waits()
+            must(m.take(slaves.pass_frame(frame)), "a frame is answered")
+            if not outputs:
+                slaves.step()
+        must(polls == 5 and outputs >= 10, "frames of outputs come before each poll")
+
+
+def runs_as_real(table):
+    """The same machine of a table for hardware, in which one variable is signed."""
+    real = "hardware = true\n" + table.replace('dir = "out"\nbits = 16\n', 'dir = "out"\nbits = 16\nsigned = true\n')
+    polls_among_outputs(real)
+    with ecat.Master(real) as m, ecat.Segment(real) as slaves:
+        m.bring_up(slaves)
+        m["force_wanted"] = 65531
+        must(m.cycle(slaves).taken and m["force_wanted"] == 65531 and m.signed("force_wanted") == -5, "a signed variable has a sign")
+        must([v.name for v in m.variables() if v.is_signed] == ["force_wanted"], "and no other has")
 
 
 def main():
@@ -49,9 +77,12 @@ def main():
         must(slaves.outputs(PANEL) == bytes([6]) and slaves.outputs(2) == b"" and slaves.get(PANEL, 0) == 6, "the panel's outputs are read whole, and by bytes")
         must(slaves.set_inputs(PANEL, b"") == 1 and slaves.set_inputs(PANEL, bytes([5, 9])) == 1 and slaves.set_inputs(2, b"5") == 0, "its inputs are written whole")
         must(m.cycle(slaves).taken and m["switches"] == 5 and m.inputs() == bytes([5, 0, 0]), "and taken")
+        must(slaves.exchange(PANEL, bytes([9])) == bytes([6]) and slaves.exchange(2, b"") == b"", "a step writes inputs, and reads outputs")
+        must(m.cycle(slaves).taken and m["switches"] == 9, "which are taken")
         slaves.fault(PRESS)
         state = m.read_state(slaves, PRESS)
         must(state.word == 0x14 and state.code != 0 and m.state(PANEL) == ecat.State(8, 0), "the press is in SAFEOP, with an error")
+    runs_as_real(table)
     print("the package's calls return what they must")
 
 

@@ -89,6 +89,7 @@ REFUSED = [
     ("box", [(IN, IN.replace("#x1180", "#x0F00"))], "it uses 0x0F00 to 0x0F08; a plan has 0x1000 to 0x2FFF"),
     ("pins", [(PINS_OUT, 'StartAddress="#x0F04"')], "it uses 0x0F04 to 0x0F06; a plan has 0x1000 to 0x2FFF"),
     ("pins", [('DefaultSize="1" StartAddress="#x0F00"', 'StartAddress="#x0F03"'), (PINS_BITS, "<BitLen>9</BitLen>")], "it uses 0x0F03 to 0x0F04; a plan has 0x0F00 to 0x0F03"),
+    ("pins", [('StartAddress="#x1000"', 'StartAddress="#x2FF0"')], "its sync managers overlap at 0x2FF0 to 0x2FF2"),
     ("pins", [(PINS_BITS, "<BitLen>9</BitLen>")], "the size of manager 0 is 1, and its PDOs have 2 bytes"),
     # what is missing or isn't as the schema has it
     ("box", [(TYPE, "")], "it has no element Type"),
@@ -194,10 +195,11 @@ SAID = [
     # its inputs are manager 2, and nothing is in its outputs
     ("box", [(OUT + "Outputs</Sm>\n", ""), ('<TxPdo Sm="3">', '<TxPdo Sm="2">'), ('<RxPdo Sm="2">', "<RxPdo>")],
      [("out_start = 0x1100\n", ""), ("rxpdo = [\n    # Set: Speed INT\n    { index = 0x1600, entries = [[0x7000, 1, 16]] },\n]\n", ""),
-      ("]\ninit = [", "]\nin_manager = [2, 0x20]\ninit = ["), ("# out = [0x1600]\n", "")], ["PDO 0x1600: there is no manager for Outputs"]),
+      ("]\ninit = [", "]\nout_manager = [3, 0x24]\nin_manager = [2, 0x20]\ninit = ["), ("# out = [0x1600]\n", "")], ["PDO 0x1600: there is no manager for Outputs"]),
     ("pins", [(PINS_OUT, 'StartAddress="#x0F02"'), (PINS_BITS, "<BitLen>16</BitLen>"), ('<Sm DefaultSize="1" StartAddress="#x0F02"', '<Sm StartAddress="#x0F02"')],
      [("0x0F00", "0x0F02"), ("entry BOOL", "entry"), ("[0x7000, 1, 1]", "[0x7000, 1, 16]")], []),
     ("box", [(IN, IN.replace("#x1180", "#x1106"))], [("in_start = 0x1180", "in_start = 0x1106")], []),
+    ("pins", [('StartAddress="#x1000"', 'StartAddress="#x2FED"')], [("in_start = 0x1000", "in_start = 0x2FED")], []),
     # init commands
     ("box", [(INIT, command(sub="<SubIndex>#xFF</SubIndex>"))], [("[0x8000, 1, 8, 10]", "[0x8000, 255, 8, 10]")], []),
     ("box", [(INIT, command(data="<Data> 0102\n0304 </Data>") + command(index="#x8001", ways=("IP",), sub="") + command(index="32770", ways=("PS", "IP")))],

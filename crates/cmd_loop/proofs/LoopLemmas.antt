@@ -18,6 +18,7 @@ use Rattle.ec_start.specs.declared.phase.Phase.{Phase}
 use Rattle.ec_start.specs.declared.phase.Phase.TheVariants.{Idle, Sent, Ready, Failed}
 use Rattle.ec_start.specs.declared.error.StartError.{StartError}
 use Rattle.ec_start.specs.Running.{StartState, begun, is_ended, outcome_of}
+use Rattle.ec_start.specs.Feeding.{feeds_of}
 use Rattle.ec_wire.specs.BringingUp.{IsBroughtUp}
 use Rattle.ec_cycle.specs.Closing.{ReportState}
 use Rattle.ec_cycle.specs.Master.{MasterState, OpenCycle, IsAnswer, IsClosed, IsTaken, begin_refusal, cycle_limit, holds_value, new_master, readied, value_put, variable_set}
@@ -73,13 +74,13 @@ if_start (Err e) x p before after is h = subst (IsStartRefusal p before after) (
 
 -- a start-up that ended by an error
 pub not_started : {T : Type 0} (r : Result T Refusal) (x : Refusal) (error : StartError) (p : PlanState) (begins start : StartState) (before after : WireState) → IsErrAnd r (λ e. e ≡ x) → x ≡ refusal.Start error
-    → begins ≡ begun p.slaves 0 → IsBroughtUp begins before start after → outcome_of start.phase ≡ Some (Err error) → IfErr r (IsStartRefusal p before after)
+    → begins ≡ begun p.slaves (feeds_of p) 0 → IsBroughtUp begins before start after → outcome_of start.phase ≡ Some (Err error) → IfErr r (IsStartRefusal p before after)
 not_started r x error p begins start before after is named new brought ended =
-    let from : IsBroughtUp (begun p.slaves 0) before start after = subst (λ (s : StartState). IsBroughtUp s before start after) new brought in
+    let from : IsBroughtUp (begun p.slaves (feeds_of p) 0) before start after = subst (λ (s : StartState). IsBroughtUp s before start after) new brought in
     if_start r x p before after is (subst (IsStartRefusal p before after) (sym named) (record { start = start; brought = from; failed = outcome-failed start.phase error ended }))
 
 -- and one that came up
-pub is_up : (p : PlanState) (m new : MasterState) (begins start : StartState) (before after : WireState) (u : Unit {0}) → m ≡ new_master p → begins ≡ begun p.slaves 0 → IsBroughtUp begins before start after
+pub is_up : (p : PlanState) (m new : MasterState) (begins start : StartState) (before after : WireState) (u : Unit {0}) → m ≡ new_master p → begins ≡ begun p.slaves (feeds_of p) 0 → IsBroughtUp begins before start after
     → outcome_of start.phase ≡ Some (Ok u) → new ≡ readied m start.next → IsUp p before after new
 is_up p m new begins start before after u master first brought ended ready = record {
   start = start;
@@ -110,7 +111,7 @@ same-bool : Bool → Bool → Bool
 same-bool a b = if a then b else not b
 
 same-variable : Variable → Variable → Bool
-same-variable v x = same-bool (is_out v.direction) (is_out x.direction) && ((v.from == x.from) && (v.bits == x.bits))
+same-variable v x = same-bool (is_out v.direction) (is_out x.direction) && ((v.from == x.from) && ((v.bits == x.bits) && same-bool v.signed x.signed))
 
 same-variables : List Variable → List Variable → Bool
 same-variables [] [] = true
@@ -129,16 +130,26 @@ direction-is Out In e = absurd (let f : false ≡ true = e in cc)
 direction-is In Out e = absurd (let f : false ≡ true = e in cc)
 direction-is In In e = refl
 
+sign-is : (a b : Bool) → same-bool a b ≡ true → a ≡ b
+unfolding same-bool
+sign-is true true e = refl
+sign-is true false e = absurd (let f : false ≡ true = e in cc)
+sign-is false true e = absurd (let f : false ≡ true = e in cc)
+sign-is false false e = refl
+
 variable-is : (v x : Variable) → same-variable v x ≡ true → v ≡ x
 unfolding same-variable
 variable-is v x e =
     let a = both (same-bool (is_out v.direction) (is_out x.direction)) _ e in
     let b = both (v.from == x.from) _ a.1 in
+    let c = both (v.bits == x.bits) _ b.1 in
     let direction : v.direction ≡ x.direction = direction-is v.direction x.direction a.0 in
     let from : v.from ≡ x.from = eqb-true v.from x.from b.0 in
-    let bits : v.bits ≡ x.bits = eqb-true v.bits x.bits b.1 in
+    let bits : v.bits ≡ x.bits = eqb-true v.bits x.bits c.0 in
+    let signed : v.signed ≡ x.signed = sign-is v.signed x.signed c.1 in
     ap (λ (d : Direction). record v { direction = d }) direction
-    ∙ (ap (λ (n : ℕ). record x { from = n; bits = v.bits }) from ∙ ap (λ (n : ℕ). record x { bits = n }) bits)
+    ∙ (ap (λ (n : ℕ). record x { from = n; bits = v.bits; signed = v.signed }) from
+    ∙ (ap (λ (n : ℕ). record x { bits = n; signed = v.signed }) bits ∙ ap (λ (is : Bool). record x { signed = is }) signed))
 
 variables-are : (vs xs : List Variable) → same-variables vs xs ≡ true → vs ≡ xs
 unfolding same-variables
@@ -149,6 +160,11 @@ variables-are (v ∷ vs) (x ∷ xs) e =
     let k = both (same-variable v x) _ e in
     ap (λ (y : Variable). y ∷ vs) (variable-is v x k.0) ∙ ap (λ (ys : List Variable). x ∷ ys) (variables-are vs xs k.1)
 
+same-sign : (a : Bool) → same-bool a a ≡ true
+unfolding same-bool
+same-sign true = refl
+same-sign false = refl
+
 same-direction : (a : Direction) → same-bool (is_out a) (is_out a) ≡ true
 unfolding same-bool
 same-direction Out = refl
@@ -156,7 +172,7 @@ same-direction In = refl
 
 variable-same : (v : Variable) → same-variable v v ≡ true
 unfolding same-variable
-variable-same v = rw (same-direction v.direction, eq-eqb v.from v.from refl, eq-eqb v.bits v.bits refl) refl
+variable-same v = rw (same-direction v.direction, eq-eqb v.from v.from refl, eq-eqb v.bits v.bits refl, same-sign v.signed) refl
 
 variables-same : (vs : List Variable) → same-variables vs vs ≡ true
 unfolding same-variables

@@ -11,6 +11,7 @@ use Rattle.ec_cycle.specs.declared.error.CycleError.TheVariants.{NumbersSpent}
 use Rattle.ec_start.specs.declared.error.StartError.{StartError}
 use Rattle.ec_start.specs.declared.phase.Phase.TheVariants.{Ready, Failed}
 use Rattle.ec_start.specs.Running.{StartState, begun}
+use Rattle.ec_start.specs.Feeding.{feeds_of}
 use Rattle.ec_bringup.specs.SwitchedOn.{AreSlavesOf}
 use Rattle.ec_wire.specs.Wires.{Traffic, WireState, counted}
 use Rattle.ec_wire.specs.BringingUp.{IsBroughtUp}
@@ -60,14 +61,14 @@ AreRun m w number (r ∷ rs) last v =
 -- variables are 0.
 pub record IsUp (p : PlanState) (before after : WireState) (m : MasterState) : Type 0 where
   pub start : StartState
-  pub brought : IsBroughtUp (begun p.slaves 0) before start after
+  pub brought : IsBroughtUp (begun p.slaves (feeds_of p) 0) before start after
   pub ready : start.phase ≡ Ready
   pub master : m ≡ readied (new_master p) start.next
 
 -- the start-up of a plan's slaves over a wire ended by an error
 pub record HasNotStarted (p : PlanState) (before after : WireState) (error : StartError) : Type 0 where
   pub start : StartState
-  pub brought : IsBroughtUp (begun p.slaves 0) before start after
+  pub brought : IsBroughtUp (begun p.slaves (feeds_of p) 0) before start after
   pub failed : start.phase ≡ Failed error
 
 -- the lines of the first cycles of a master over a wire, at most `cycles`

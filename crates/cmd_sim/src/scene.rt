@@ -14,8 +14,12 @@ const AL_STATUS: u16 = 0x0130;
 /// The register of the AL status code (ETG.1000.4).
 const AL_STATUS_CODE: u16 = 0x0134;
 
-/// The byte of sync manager 2 (outputs) that the slave's side sets (ETG.1000.4). Its bit 0 deactivates the manager.
-const OUTPUTS_LOCK: u16 = 0x0817;
+/// The byte of sync manager 0 that the slave's side sets (ETG.1000.4). Its bit 0 deactivates the manager.
+const FIRST_LOCK: u16 = 0x0807;
+/// How many bytes further that of the next manager stands.
+const MANAGER_SIZE: u16 = 8;
+/// The manager of the outputs, where no slave says another.
+const USUAL_MANAGER: u8 = 2;
 
 /// A world, and the table that has its names.
 #[derive(Clone, Copy)]
@@ -49,7 +53,12 @@ impl Firmware {
 impl Scene<'_, '_> {
     /// Whether the outputs of a slave are locked. A fault locks them, and only INIT ends that.
     pub fn has_locked_outputs(&self, slave: usize) -> bool {
-        register(self.world, slave, OUTPUTS_LOCK) & 1 == 1
+        let manager = match self.world.plan().slaves().get(slave) {
+            Some(settings) => settings.kind.out_manager().number,
+            None => USUAL_MANAGER,
+        };
+        let lock = FIRST_LOCK + MANAGER_SIZE * u16::from(manager);
+        register(self.world, slave, lock) & 1 == 1
     }
 
     /// Whether the table has a slave of this number.

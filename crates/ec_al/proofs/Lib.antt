@@ -2,3 +2,5 @@
 pub mod RunLemmas
 -- the names of states
 pub mod NameLemmas
+-- what a device without firmware copies
+pub mod CopyLemmas

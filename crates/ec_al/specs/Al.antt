@@ -1,13 +1,17 @@
 -- The AL state machine of a slave (ETG.1000.6, "EtherCAT state machine").
-use Rattle.std.specs.Prelude.{ℕ, ◌&&◌, ◌↔◌, ◌≡◌, Bool, true, false, not, if◌then◌else◌, Option, Some, None, Result, Ok, Err}
+use Rattle.std.specs.Prelude.{ℕ, ◌&&◌, ◌↔◌, ◌≡◌, Bool, true, false, not, if◌then◌else◌, Result, Ok, Err}
 use Rattle.ec_regs.specs.Words.{al_word}
 use Rattle.ec_al.specs.States.{state_number, code_number}
 use Rattle.ec_al.specs.Transitions.{requested_by, acknowledges, answer}
+use Rattle.ec_al.specs.declared.machine.Indication.{Indication}
+use Rattle.ec_al.specs.declared.machine.Indication.TheVariants.{Clear, Code, Copied}
 use Rattle.ec_al.specs.declared.state.State.{State}
 use Rattle.ec_al.specs.declared.state.State.TheVariants.{Init, SafeOp, Op}
 use Rattle.ec_al.specs.declared.status_code.StatusCode.{StatusCode}
 use Rattle.ec_al.specs.declared.status_code.StatusCode.TheVariants.{Unspecified}
 use Rattle.ec_al.specs.declared.transition.Checks.{Checks}
+use Rattle.ec_al.specs.declared.transition.Requested.{Requested}
+use Rattle.ec_al.specs.declared.transition.Requested.TheVariants.{To, Bootstrap, Unknown}
 
 pub record Al : Type 0 where
   pub state : State
@@ -50,6 +54,16 @@ decided al control checks =
 abbrev pub stepped : Al → ℕ → Checks → Al
 stepped al control checks = if al.requested then decided al control checks else al
 
+-- A device without firmware, whose controller runs its AL state machine (the datasheets of slave controllers, "Device emulation"):
+-- bits 0..4 of the control word become the status word's, if they name a state; nothing is checked, and there is no code.
+abbrev pub copied_to : Al → Requested → Bool → Al
+copied_to al (To state) flag = record { state = state; error = flag; code = 0; requested = false }
+copied_to al Bootstrap flag = ignored al
+copied_to al Unknown flag = ignored al
+
+abbrev pub copied : Al → ℕ → Al
+copied al control = copied_to al (requested_by control) (acknowledges control)
+
 abbrev pub is_operational : State → Bool
 is_operational Op = true
 is_operational state = false
@@ -61,11 +75,17 @@ faulted al =
     then record { state = SafeOp; error = true; code = code_number Unspecified; requested = al.requested }
     else al
 
--- the code is 0 exactly without an error
+-- the code is 0 exactly without an error, in a device with firmware
 abbrev pub IsSound : Al → Type 0
 IsSound al = (al.code ≡ 0) ↔ (al.error ≡ false)
 
--- the code of the error, 0 if there is none
-abbrev pub shown_code : Option StatusCode → ℕ
-shown_code None = 0
-shown_code (Some code) = code_number code
+-- what an indication shows: bit 4 of the status word, and the code
+abbrev pub is_shown : Indication → Bool
+is_shown Clear = false
+is_shown (Code code) = true
+is_shown Copied = true
+
+abbrev pub shown_code : Indication → ℕ
+shown_code Clear = 0
+shown_code (Code code) = code_number code
+shown_code Copied = 0

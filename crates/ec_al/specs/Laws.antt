@@ -1,9 +1,10 @@
--- What ETG.1000.6 says of the EtherCAT state machine, proved of the definitions of this crate.
-use Rattle.std.specs.Prelude.{ℕ, ◌+◌, ◌≡◌, ◌≢◌, ◌<◌, ◌≤◌, ◌↔◌, ◌⊎◌, true, false, List, [], ◌∷◌, ◌++◌, take, Some, IsOk, IfOk, All}
+-- What ETG.1000.6 says of the EtherCAT state machine, proved of the definitions of this crate. The laws over runs speak of devices
+-- with firmware.
+use Rattle.std.specs.Prelude.{ℕ, ◌+◌, ◌%◌, ◌≡◌, ◌≢◌, ◌<◌, ◌≤◌, ◌↔◌, ◌⊎◌, true, false, List, [], ◌∷◌, ◌++◌, take, Some, IsOk, IfOk, All}
 use Rattle.ec_regs.specs.Words.{al_state}
 use Rattle.ec_al.specs.States.{state_number, state_name, state_named, bootstrap_number}
 use Rattle.ec_al.specs.Transitions.{requested_number, requested_by, acknowledges, answer}
-use Rattle.ec_al.specs.Al.{Al, power_on, status_word, requesting, stepped, IsSound}
+use Rattle.ec_al.specs.Al.{Al, copied, power_on, status_word, requesting, stepped, IsSound}
 use Rattle.ec_al.specs.Runs.{Event, Request, Step, Fault, Reset, after_all}
 use Rattle.ec_al.specs.declared.state.State.{State}
 use Rattle.ec_al.specs.declared.state.State.TheVariants.{Init, PreOp, SafeOp, Op}
@@ -112,6 +113,13 @@ ComesUpToOp =
     (checks : Checks) → PassesChecks checks PreOp → PassesChecks checks SafeOp →
     status_word (after_all power_on
     (asked_for 0x0002 checks ++ asked_for 0x0004 checks ++ asked_for 0x0008 checks)) ≡ 0x0008
+
+-- A device without firmware shows what is written: its status word becomes bits 0..4 of the control word, where they name a
+-- state, acknowledge and all.
+abbrev pub CopiesAreShown : Type 0
+CopiesAreShown =
+    (al : Al) (control : ℕ) (wanted : State) →
+    requested_by control ≡ To wanted → status_word (copied al control) ≡ control % 32
 
 -- The name of a state stands for that state.
 abbrev pub NamesReadBack : Type 0

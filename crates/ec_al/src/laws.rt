@@ -1,7 +1,7 @@
 //! What the standard says of the EtherCAT state machine, proved of the definitions that the contracts of this
 //! crate cite. Each function does nothing; its contract is the law, which `specs/Laws.antt` spells out.
 
-ghost use Rattle.ec_al.specs.Laws.{AsksByNumber, GrantsUpToTheNextState, ClimbsOneStateAtATime, KeepsErrors, ReachesOpByRequest, CodeMatchesErrors, NeverEntersBootstrap, DecidesOnce, ReturnsToInit, ComesUpToOp, NamesReadBack};
+ghost use Rattle.ec_al.specs.Laws.{AsksByNumber, GrantsUpToTheNextState, ClimbsOneStateAtATime, KeepsErrors, ReachesOpByRequest, CodeMatchesErrors, NeverEntersBootstrap, DecidesOnce, ReturnsToInit, ComesUpToOp, CopiesAreShown, NamesReadBack};
 
 /// A control word asks for a state exactly by that state's number.
 pub fn asks_by_number()
@@ -56,6 +56,12 @@ pub fn returns_to_init()
 /// Requests for PREOP, SAFEOP and OP lead from INIT to OP if all checks pass.
 pub fn comes_up_to_op()
     ensures { ComesUpToOp }
+{}
+
+/// A device without firmware shows in AL status what was written to AL control.
+#[tactic(auto, using(crate::proofs::CopyLemmas::copies_shown))]
+pub fn copies_are_shown()
+    ensures { CopiesAreShown }
 {}
 
 /// The name of a state stands for that state.

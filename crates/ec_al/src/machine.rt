@@ -1,6 +1,6 @@
 //! The AL state machine of a slave.
-ghost use Rattle.std.specs.Prelude.{◌≡◌, ◌↔◌, IsTrue};
-ghost use Rattle.ec_al.specs.Al.{power_on, requesting, stepped, faulted, status_word, IsSound};
+ghost use Rattle.std.specs.Prelude.{◌≡◌, ◌↔◌, IsTrue, false};
+ghost use Rattle.ec_al.specs.Al.{copied, power_on, requesting, stepped, faulted, is_shown as is_indicated, status_word};
 ghost use Rattle.ec_al.specs.declared.state.State.TheVariants.{Op};
 
 use crate::state::State;
@@ -9,24 +9,46 @@ use crate::transition::{Checks, Requested};
 use ec_regs::AlWord;
 use std::marker::Model;
 
+/// The error bit of the AL status word, and what set it.
+#[derive(Clone, Copy, Debug, PartialEq, Eq)]
+enum Indication {
+    /// The bit is clear.
+    Clear,
+    /// An error set it.
+    Code(StatusCode),
+    /// It is the acknowledge bit of AL control, which a device without firmware copies.
+    Copied,
+}
+
+impl Indication {
+    /// Whether the bit is set.
+    fn is_shown(self) -> bool
+        ensures { result ≡ is_indicated self }
+    {
+        match self {
+            Indication::Clear => false,
+            Indication::Code(_) | Indication::Copied => true,
+        }
+    }
+}
+
 /// The AL state machine of one slave: its state, its error, and whether a request waits for the firmware.
 /// A contract sees it as an `Al` of specs/, where the error is a flag and a code.
 #[derive(Debug, Drop)]
 pub struct Al {
     state: State,
-    error: Option<StatusCode>,
+    error: Indication,
     is_requested: bool,
 }
 
 impl Model for Al {
-    ghost use Rattle.std.specs.Prelude.{is_some};
-    ghost use Rattle.ec_al.specs.Al.{Al, shown_code};
+    ghost use Rattle.ec_al.specs.Al.{Al, is_shown, shown_code};
 
     ghost Value = { Al };
 
     ghost view = { λ a. record {
       state = a.state;
-      error = is_some a.error;
+      error = is_shown a.error;
       code = shown_code a.error;
       requested = a.is_requested;
     } };
@@ -39,7 +61,7 @@ impl Al {
     {
         Al {
             state: State::Init,
-            error: None,
+            error: Indication::Clear,
             is_requested: false,
         }
     }
@@ -60,16 +82,33 @@ impl Al {
             return;
         }
         self.is_requested = false;
-        if self.error.is_some() && !AlWord(control).acknowledges() {
+        if self.error.is_shown() && !AlWord(control).acknowledges() {
             return;
         }
         match self.state.answer(Requested::of(control), checks) {
             Ok(state) => {
                 self.state = state;
-                self.error = None;
+                self.error = Indication::Clear;
             }
-            Err(code) => self.error = Some(code),
+            Err(code) => self.error = Indication::Code(code),
         }
+    }
+
+    /// A step of a device without firmware. State and acknowledge bit of the AL control word become the state and the error
+    /// bit, if they name a state; nothing is checked. A request waits no longer.
+    pub fn copy(&mut self, control: u16)
+        ensures { self.new ≡ copied self.old control }
+    {
+        self.is_requested = false;
+        let Requested::To(state) = Requested::of(control) else {
+            return;
+        };
+        self.state = state;
+        self.error = if AlWord(control).acknowledges() {
+            Indication::Copied
+        } else {
+            Indication::Clear
+        };
     }
 
     /// A fault of the application. In OP it leads to SAFEOP with an error, and returns true. In any other state it returns
@@ -80,7 +119,7 @@ impl Al {
     {
         if self.state == State::Op {
             self.state = State::SafeOp;
-            self.error = Some(StatusCode::Unspecified);
+            self.error = Indication::Code(StatusCode::Unspecified);
             true
         } else {
             false
@@ -105,15 +144,18 @@ impl Al {
     pub fn has_error(&self) -> bool
         ensures { result ≡ self.now.error }
     {
-        self.error.is_some()
+        self.error.is_shown()
     }
 
-    /// The AL status code, 0 exactly without an error.
+    /// The AL status code. It is 0 without an error, and beside an error bit that was copied.
     pub fn code(&self) -> u16
         ensures value { result ≡ self.now.code }
-        ensures sound { IsSound self.now }
+        ensures sound { self.now.error ≡ false → self.now.code ≡ 0 }
     {
-        self.error.map_or(0, |code| code.number())
+        match self.error {
+            Indication::Code(code) => code.number(),
+            Indication::Clear | Indication::Copied => 0,
+        }
     }
 
     /// Whether a request waits for a firmware step.
@@ -128,6 +170,6 @@ impl Al {
     pub fn status_word(&self) -> u16
         ensures { result ≡ status_word self.now }
     {
-        AlWord::new(self.state.number() as u8, self.error.is_some()).0
+        AlWord::new(self.state.number() as u8, self.error.is_shown()).0
     }
 }

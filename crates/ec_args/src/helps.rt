@@ -69,7 +69,7 @@ how many variables there are. Each variable NAME has these, in file order:
   ECAT_BITS_NAME             how many bits it has
   ECAT_OUTPUT_NAME           1 for an output, 0 for an input
   ECAT_TYPE_NAME             the C type that holds it
-  ECAT_SIGNED_NAME           0: no table says yet that a variable is signed
+  ECAT_SIGNED_NAME           1 if it is signed, else 0
   ECAT_OFFSET_NAME           its first bit in the image of all outputs, or of all inputs
 With `--prefix` PREFIX, made of letters, digits and `_`, names begin with it in place of `ECAT_`.
 
@@ -82,8 +82,9 @@ Exit status:
 Refusals with status 3; PLACE counts from 0 in file order:
   11 Toml                    the text is no TOML: correct its syntax
   12 BadKey SECTION PLACE    a key is unknown or missing: leave it out or add it. `unit` is known
-                             if the text begins with `version = 2`. SECTION is 0 for the
-                             document, 1 type, 2 slave, 3 variable, 4 link
+                             if the text begins with `version = 2`, and keys of real devices
+                             if it has `hardware = true`. SECTION is 0 for the document,
+                             1 type, 2 slave, 3 variable, 4 link
   13 BadValue SECTION PLACE  a value has the wrong kind, range or number of items: give one that
                              its key takes. A name has letters, digits and `_` alone. A slave
                              without a mailbox assigns all PDOs of its type, so leave out its

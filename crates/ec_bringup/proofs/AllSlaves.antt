@@ -7,3 +7,5 @@ pub mod RoundLaw
 pub mod NextAction
 -- applications that step between the frames of a start-up change nothing of what its next frame relies on
 pub mod Applications
+-- a frame that feeds a part, past all slaves
+pub mod FedTurns

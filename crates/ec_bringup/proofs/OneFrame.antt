@@ -17,3 +17,9 @@ pub mod SetRegisters
 pub mod Commands
 -- the polls of a start-up at a slave that has what is waited for
 pub mod Awaits
+-- a slave that holds its plan is mapped at its area
+pub mod MappedAreas
+-- a slave that was just switched on maps nothing
+pub mod Blank
+-- a frame that feeds a part, at a slave
+pub mod FeedLaw

@@ -7,3 +7,7 @@ pub mod IsPath
 pub mod ChecksGranted
 -- the plan of a table without faults is complete
 pub mod CompiledPlansLaw
+-- the steps before whose frames parts are fed
+pub mod FedSteps
+-- the parts of a plan can be fed
+pub mod FeedsOfPlans

@@ -9,3 +9,5 @@ pub mod StartUpLaw
 pub mod ComesUpLaw
 -- bringing up a start-up
 pub mod BringUp
+-- a start-up without `hardware`: one frame for each action
+pub mod PlainUpLaw

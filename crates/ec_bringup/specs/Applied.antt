@@ -1,12 +1,14 @@
 -- A start-up with steps of the slaves' applications between its frames.
-use Rattle.std.specs.Prelude.{ℕ, zero, suc, ◌+◌, ◌<◌, ◌≡◌, List, [], ◌∷◌, length, true, Option}
+use Rattle.std.specs.Prelude.{ℕ, zero, suc, ◌+◌, ◌<◌, ◌≡◌, List, [], ◌∷◌, true, Option}
 use Rattle.ec_sync.specs.Buffer.{Buffer}
 use Rattle.ec_slave.specs.State.{SlaveState, manager_at}
 use Rattle.ec_slave.specs.Application.{is_running, with_manager}
 use Rattle.ec_link.specs.declared.settings.SlavePlan.{SlavePlan}
+use Rattle.ec_start.specs.declared.action.Feed.{Feed}
+use Rattle.ec_start.specs.Feeding.{frames_of}
 use Rattle.ec_start.specs.Scripts.{script}
 use Rattle.ec_start.specs.Running.{begun}
-use Rattle.ec_bringup.specs.Undisturbed.{Rising, turned, ArePlans, AreDevices}
+use Rattle.ec_bringup.specs.Undisturbed.{Rising, turned, ArePlansWith, AreDevices}
 use Rattle.ec_bringup.specs.BringUp.{rising}
 use Rattle.ec_bringup.specs.ComesUp.{IsOnItsWay, IsUpAndWorks}
 
@@ -36,9 +38,8 @@ pub data TurnsTo : ℕ → Rising → Rising → Type 0 where
   Stays : (r : Rising) → TurnsTo zero r r
   Turns : (n : ℕ) (r e : Rising) (ss : List SlaveState) → AreApplied (turned r).slaves ss → TurnsTo n (rising (turned r).start ss) e → TurnsTo (suc n) r e
 
--- Whatever applications do between its frames, a start-up that nothing else disturbs is Ready after as many frames as its script
--- has actions, and not before.
+-- Whatever applications do between its frames, a start-up that nothing else disturbs is Ready after as many frames, and not before.
 abbrev pub AppliedUpLaw : Type 0
 AppliedUpLaw =
-    (ps : List SlavePlan) → ArePlans ps → (from : ℕ) (ss : List SlaveState) → AreDevices ps ss → (k : ℕ) (e : Rising) → TurnsTo k (rising (begun ps from) ss) e
-    → (k < length (script ps) → IsOnItsWay (from + k) e) × (k ≡ length (script ps) → IsUpAndWorks ps (from + k) e)
+    (ps : List SlavePlan) (fs : List Feed) → ArePlansWith ps fs → (from : ℕ) (ss : List SlaveState) → AreDevices ps ss → (k : ℕ) (e : Rising) → TurnsTo k (rising (begun ps fs from) ss) e
+    → (k < frames_of fs (script ps) → IsOnItsWay (from + k) e) × (k ≡ frames_of fs (script ps) → IsUpAndWorks ps (from + k) e)

@@ -1,18 +1,21 @@
 -- A start-up that nothing disturbs ends Ready.
-use Rattle.std.specs.Prelude.{ℕ, ◌+◌, ◌<◌, ◌≡◌, List, length, None}
+use Rattle.std.specs.Prelude.{ℕ, ◌+◌, ◌<◌, ◌≡◌, List, [], length, false, None}
 use Rattle.ec_slave.specs.State.{SlaveState}
 use Rattle.ec_table.specs.Contents.{Contents}
 use Rattle.ec_table.specs.Sound as table
 use Rattle.ec_link.specs.Faults.{compile_fault}
 use Rattle.ec_link.specs.Plan.{plan_of}
 use Rattle.ec_link.specs.declared.settings.SlavePlan.{SlavePlan}
-use Rattle.ec_start.specs.Scripts.{script}
+use Rattle.ec_start.specs.declared.action.Feed.{Feed}
+use Rattle.ec_start.specs.Feeding.{feeds_of, frames_of}
+use Rattle.ec_start.specs.Scripts.{is_hardware, script}
 use Rattle.ec_start.specs.declared.phase.Phase.TheVariants.{Idle, Ready}
 use Rattle.ec_start.specs.Running.{begun}
 use Rattle.ec_frame.specs.Datagram.{IsDatagram}
-use Rattle.ec_bringup.specs.Undisturbed.{Rising, frame_at, turns, plan_at, slave_of, ArePlans, AreDevices}
+use Rattle.ec_bringup.specs.Undisturbed.{Rising, frame_at, turns, plan_at, slave_of, ArePlans, ArePlansWith, AreDevices}
 use Rattle.ec_device.specs.Types.{SlaveKind}
 use Rattle.ec_bringup.specs.Starting.{Starting}
+use Rattle.ec_bringup.specs.Fed.{AreFeedsOf}
 use Rattle.ec_bringup.specs.Runs.{Works, IsNew, Runs}
 
 -- it ended Ready, with every slave working as the plan says
@@ -29,25 +32,34 @@ pub record IsOnItsWay (number : ℕ) (r : Rising) : Type 0 where
   pub good : IsDatagram (frame_at r)
 
 -- A start-up of any plan, over devices of its types in any state: if each frame passes all slaves, each slave serves once and the
--- frame comes back, the start-up is Ready after as many frames as its script has actions, and not before.
+-- frame comes back, the start-up is Ready after `frames_of` its script, and not before: one frame for each action, and before each
+-- that asks for OP or looks for it one for each part that is fed.
 abbrev pub ComesUpLaw : Type 0
 ComesUpLaw =
-    (ps : List SlavePlan) → ArePlans ps → (from : ℕ) (ss : List SlaveState) → AreDevices ps ss
-    → let r : Rising = record { start = begun ps from; slaves = ss } in
+    (ps : List SlavePlan) (fs : List Feed) → ArePlansWith ps fs → (from : ℕ) (ss : List SlaveState) → AreDevices ps ss
+    → let r : Rising = record { start = begun ps fs from; slaves = ss } in
+    IsUpAndWorks ps (from + frames_of fs (script ps)) (turns (frames_of fs (script ps)) r)
+    × ((k : ℕ) → k < frames_of fs (script ps) → IsOnItsWay (from + k) (turns k r))
+
+-- Of a plan without `hardware` these are as many frames as its script has actions.
+abbrev pub PlainUpLaw : Type 0
+PlainUpLaw =
+    (ps : List SlavePlan) → ArePlans ps → is_hardware ps ≡ false → (from : ℕ) (ss : List SlaveState) → AreDevices ps ss
+    → let r : Rising = record { start = begun ps [] from; slaves = ss } in
     IsUpAndWorks ps (from + length (script ps)) (turns (length (script ps)) r)
     × ((k : ℕ) → k < length (script ps) → IsOnItsWay (from + k) (turns k r))
 
 -- The plan of a table that `compile` accepts is one.
 abbrev pub CompiledPlansLaw : Type 0
-CompiledPlansLaw = (t : Contents) → table.IsSound t → compile_fault t ≡ None → ArePlans (plan_of t).slaves
+CompiledPlansLaw = (t : Contents) → table.IsSound t → compile_fault t ≡ None → ArePlansWith (plan_of t).slaves (feeds_of (plan_of t))
 
 -- So an undisturbed start-up of it ends Ready too.
 abbrev pub CompiledUpLaw : Type 0
 CompiledUpLaw =
     (t : Contents) → table.IsSound t → compile_fault t ≡ None → (from : ℕ) (ss : List SlaveState) → AreDevices (plan_of t).slaves ss
-    → let r : Rising = record { start = begun (plan_of t).slaves from; slaves = ss } in
-    IsUpAndWorks (plan_of t).slaves (from + length (script (plan_of t).slaves)) (turns (length (script (plan_of t).slaves)) r)
-    × ((k : ℕ) → k < length (script (plan_of t).slaves) → IsOnItsWay (from + k) (turns k r))
+    → let r : Rising = record { start = begun (plan_of t).slaves (feeds_of (plan_of t)) from; slaves = ss } in
+    IsUpAndWorks (plan_of t).slaves (from + frames_of (feeds_of (plan_of t)) (script (plan_of t).slaves)) (turns (frames_of (feeds_of (plan_of t)) (script (plan_of t).slaves)) r)
+    × ((k : ℕ) → k < frames_of (feeds_of (plan_of t)) (script (plan_of t).slaves) → IsOnItsWay (from + k) (turns k r))
 
 -- ---- whatever happened before
 
@@ -63,4 +75,4 @@ pub record AreTrue (w : Starting) : Type 0 where
 
 -- After any run of a new segment (`Starting`), disturbed or not, its slaves are devices, so a start-up can bring them up again.
 abbrev pub AgainLaw : Type 0
-AgainLaw = (ps : List SlavePlan) → ArePlans ps → (w v : Starting) → IsNew ps w → AreTrue w → Runs w v → AreDevices ps v.slaves
+AgainLaw = (ps : List SlavePlan) (fs : List Feed) → ArePlans ps → AreFeedsOf ps fs → (w v : Starting) → IsNew ps fs w → AreTrue w → Runs w v → AreDevices ps v.slaves

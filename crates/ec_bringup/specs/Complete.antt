@@ -75,5 +75,7 @@ pub record IsComplete (p : SlavePlan) : Type 0 where
   pub reach : CanReach p.kind.mailbox
   pub outs : IsAssignable p.kind p.kind.outputs p.outputs
   pub ins : IsAssignable p.kind p.kind.inputs p.inputs
+  -- without mapped bits it has no output bits
+  pub no_out_bits : p.share.outs ≡ 0 → bits_assigned p.kind.outputs p.outputs ≡ 0
   pub out_carried : carries (settings_at p.managers 2) (bits_assigned p.kind.outputs p.outputs) p.kind.out_start outputs_mode ≡ true
   pub in_carried : carries (settings_at p.managers 3) (bits_assigned p.kind.inputs p.inputs) p.kind.in_start inputs_mode ≡ true

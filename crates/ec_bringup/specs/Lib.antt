@@ -9,8 +9,9 @@ pub mod Frames
 -- What a plan must be beyond `IsStartable`, that an undisturbed start-up ends Ready; an undisturbed start-up.
 pub mod Complete
 pub mod Undisturbed
--- The runs of a segment that starts up, disturbed or not, and what holds at Ready.
+-- The parts that are fed; the runs of a segment that starts up, disturbed or not, and what holds at Ready.
 pub mod Starting
+pub mod Fed
 pub mod Runs
 pub mod ComesUp
 -- Devices stay devices of their types.

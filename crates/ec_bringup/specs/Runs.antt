@@ -1,5 +1,5 @@
 -- The runs of a world that starts up, and what its slaves are when it is ready.
-use Rattle.std.specs.Prelude.{ℕ, ◌+◌, ◌<◌, ◌≡◌, ◌≢◌, ◌==◌, ◌&&◌, List, length, set, get_or, replicate, Bool, true, false, if◌then◌else◌, Some, None, unwrap_or}
+use Rattle.std.specs.Prelude.{ℕ, ◌+◌, ◌<◌, ◌≡◌, ◌≢◌, ◌==◌, ◌&&◌, List, length, set, get_or, replicate, Bool, true, false, if◌then◌else◌, Some, None, is_some, unwrap_or}
 use Rattle.ec_frame.specs.Datagram.{Datagram, IsDatagram}
 use Rattle.ec_al.specs.declared.state.State.TheVariants.{Op, SafeOp}
 use Rattle.ec_slave.specs.State.{SlaveState, power_on, manager_at}
@@ -13,9 +13,12 @@ use Rattle.ec_start.specs.Actions.{datagram_of}
 use Rattle.ec_start.specs.declared.error.StartError.{StartError}
 use Rattle.ec_start.specs.declared.error.StartError.TheVariants.{Lost}
 use Rattle.ec_start.specs.Running.{StartState, action_of, sending, taken, given_up, begun}
+use Rattle.ec_start.specs.declared.action.Feed.{Feed}
 use Rattle.ec_start.specs.declared.phase.Phase.{Phase}
 use Rattle.ec_start.specs.declared.phase.Phase.TheVariants.{Idle, Sent, Ready, Failed}
 use Rattle.ec_start.specs.Planned.{IsStartable}
+use Rattle.ec_start.specs.Scripts.{is_hardware}
+use Rattle.ec_bringup.specs.Fed.{AreFeedsOf}
 use Rattle.ec_bringup.specs.Stages.{end_of, Config}
 use Rattle.ec_bringup.specs.Standing.{IsIn, IsConfigured, IsSilent}
 use Rattle.ec_bringup.specs.Starting.{Carried, Starting, slave_at, trouble_at, no_plan, AreSlaves}
@@ -46,7 +49,7 @@ is_beginning s = is_idle s.phase && (s.place == 0)
 
 -- A start-up is at its beginning when it begins, and no more once a frame was sent or answered, or it was given up.
 pub record BeginsOnce (s : StartState) : Type 0 where
-  pub begins : (number : ℕ) → is_beginning (begun s.plan number) ≡ true
+  pub begins : (number : ℕ) → is_beginning (begun s.plan s.feeds number) ≡ true
   pub sent : is_beginning (sending s) ≡ false
   pub answered : (d : Datagram) → is_beginning (taken s d) ≡ false
   pub ends : is_beginning (given_up s) ≡ false
@@ -67,7 +70,7 @@ with_sent w = record {
 }
 
 abbrev pub with_begun : Starting → Starting
-with_begun w = record { start = begun w.start.plan w.start.next; slaves = w.slaves; troubles = w.troubles; slot = None }
+with_begun w = record { start = begun w.start.plan w.start.feeds w.start.next; slaves = w.slaves; troubles = w.troubles; slot = None }
 
 abbrev pub with_empty : Starting → Starting
 with_empty w = record { start = w.start; slaves = w.slaves; troubles = w.troubles; slot = None }
@@ -78,6 +81,8 @@ with_lost w = record { start = record w.start { phase = Failed Lost }; slaves = 
 -- what `compile` promises of a plan
 pub record AreStartable (ps : List SlavePlan) : Type 0 where
   pub each : (i : ℕ) → i < length ps → IsStartable (get_or ps i no_plan)
+  -- all types are of a table with `hardware`, or none is
+  pub alike : (i : ℕ) → i < length ps → is_some (get_or ps i no_plan).kind.hardware ≡ is_hardware ps
 
 abbrev pub ends_of : List SlavePlan → ℕ → Config
 ends_of ps i = end_of (get_or ps i no_plan)
@@ -131,8 +136,9 @@ pub data SlaveHealth (i : ℕ) (p : SlavePlan) (trouble : Bool) (s : SlaveState)
   WasReset : trouble ≡ true → s ≡ power_on s.kind s.identity → SlaveHealth i p trouble s
 
 -- a new segment (`Starting`)
-pub record IsNew (ps : List SlavePlan) (w : Starting) : Type 0 where
+pub record IsNew (ps : List SlavePlan) (fs : List Feed) (w : Starting) : Type 0 where
   pub plan_is : w.start.plan ≡ ps
+  pub feeds_are : w.start.feeds ≡ fs
   pub start : w ≡ with_begun w
   pub slaves : AreSlaves w
 
@@ -140,5 +146,5 @@ pub record IsNew (ps : List SlavePlan) (w : Starting) : Type 0 where
 -- reset since the first frame of that start-up was sent, and then holds what a fault leaves, or is as the power comes on.
 abbrev pub StartUpLaw : Type 0
 StartUpLaw =
-    (ps : List SlavePlan) → AreStartable ps → (w v : Starting) → IsNew ps w → Runs w v → v.start.phase ≡ Ready → (i : ℕ) → i < length ps
+    (ps : List SlavePlan) (fs : List Feed) → AreStartable ps → AreFeedsOf ps fs → (w v : Starting) → IsNew ps fs w → Runs w v → v.start.phase ≡ Ready → (i : ℕ) → i < length ps
     → SlaveHealth i (get_or ps i no_plan) (trouble_at v.troubles i) (slave_at v.slaves i)

@@ -5,7 +5,9 @@ use Rattle.ec_regs.specs.Memory.{fmmus, fmmu_start, ram_end}
 use Rattle.ec_regs.specs.Words.{al_word}
 use Rattle.ec_regs.specs.Managers.{no_settings}
 use Rattle.ec_regs.specs.Fmmus.{fmmu_bytes}
+use Rattle.ec_regs.specs.Names.{shown_fmmu}
 use Rattle.ec_device.specs.Types.{SlaveKind}
+use Rattle.ec_device.specs.Hardware.{has_firmware}
 use Rattle.ec_sync.specs.Buffer.{Buffer, emptied_buffer}
 use Rattle.ec_sync.specs.SyncManager.{SyncManager, buffer_length}
 use Rattle.ec_al.specs.declared.state.State.{State}
@@ -14,12 +16,13 @@ use Rattle.ec_al.specs.States.{state_number}
 use Rattle.ec_slave.specs.State.{SlaveState, manager_at, station_of, power_on}
 use Rattle.ec_coe.specs.Objects.{Assignment, all_assigned}
 use Rattle.ec_slave.specs.Checking.{control_word}
+use Rattle.ec_slave.specs.Physical.{is_missing}
 use Rattle.ec_coe.specs.Messages.{message_read}
 use Rattle.ec_start.specs.Plans.{settings_at, fmmu_at}
 use Rattle.ec_start.specs.Actions.{station, filled, request_bytes}
 use Rattle.ec_start.specs.declared.verdict.Verdict.TheVariants.{Next}
 use Rattle.ec_start.specs.Verdicts.{message_verdict}
-use Rattle.ec_bringup.specs.Stages.{Rise, Stays, Climbs, Claim, Talk, Config, Stage, Before, Called, Down, Up, answered, IsStepUp}
+use Rattle.ec_bringup.specs.Stages.{Rise, Falls, Stays, Climbs, Claim, Talk, Config, Stage, Before, Called, Down, Lowered, Up, answered, IsStepUp}
 use Rattle.ec_start.specs.Planned.{AreMailboxes, IsRequest}
 
 -- ---- at every instant of a world
@@ -37,6 +40,8 @@ pub record IsOfKind (kind : SlaveKind) (s : SlaveState) : Type 0 where
   pub ins : length s.ins.slots ≡ length kind.inputs
   pub fixed : kind.mailbox ≡ None → HasAll s
   pub unlocked_in_init : s.al.state ≡ Init → (n : ℕ) → n < 4 → (manager_at s.managers n).locked ≡ false
+  -- the registers of FMMUs that it lacks
+  pub missing : (a : ℕ) → is_missing kind.hardware a ≡ true → slice_index s.memory a ≡ 0
 
 -- ---- what is known by the actions so far
 
@@ -52,7 +57,8 @@ HoldsZeros m = unviewed m.buffer ≡ emptied_buffer (buffer_length m.settings)
 pub record IsConfigured (i : ℕ) (c : Config) (s : SlaveState) : Type 0 where
   pub station_is : station_of s ≡ station i
   pub settings : (n : ℕ) → n < 4 → (manager_at s.managers n).settings ≡ settings_at c.managers n
-  pub fmmus : (n k : ℕ) → n < 4 → k < 16 → slice_index s.memory (fmmu_start n + k) ≡ slice_index (fmmu_bytes (fmmu_at c.fmmus n)) k
+  -- as its registers have them
+  pub fmmus : (n k : ℕ) → n < 4 → k < 16 → slice_index s.memory (fmmu_start n + k) ≡ slice_index (fmmu_bytes (shown_fmmu s.kind.hardware (fmmu_at c.fmmus n))) k
   pub idle : c.idle ≡ true → s.sii.busy ≡ false
   pub no_messages : (n : ℕ) → 2 ≤ n → n < 4 → (manager_at s.managers n).mail ≡ None
   pub outputs : HoldsZeros (manager_at s.managers 2)
@@ -61,10 +67,17 @@ pub record IsConfigured (i : ℕ) (c : Config) (s : SlaveState) : Type 0 where
 abbrev pub init_request : ℕ
 init_request = al_word (state_number Init) true
 
--- in INIT without an error; a request that waits can only be phase 1's
+-- in INIT, and without an error if it has firmware; a request that waits can only be phase 1's
 pub record IsInInit (s : SlaveState) : Type 0 where
   pub state : s.al.state ≡ Init
-  pub no_error : s.al.error ≡ false
+  pub no_error : has_firmware s.kind.hardware ≡ true → s.al.error ≡ false
+  pub asked : s.al.requested ≡ true → control_word s ≡ init_request
+
+-- In INIT, perhaps with an error. If the slave has firmware, phase 1's request waits then, which acknowledges the error; of a slave
+-- without firmware it is the copied acknowledgement.
+pub record HasFallen (s : SlaveState) : Type 0 where
+  pub state : s.al.state ≡ Init
+  pub no_error : has_firmware s.kind.hardware ≡ true → s.al.requested ≡ false → s.al.error ≡ false
   pub asked : s.al.requested ≡ true → control_word s ≡ init_request
 
 -- in a state, without an error or a request
@@ -80,7 +93,6 @@ StaysIn state s = IsIn state s
 -- not decided yet
 pub record IsAsked (from : State) (control : ℕ) (s : SlaveState) : Type 0 where
   pub state : s.al.state ≡ from
-  pub no_error : s.al.error ≡ false
   pub request : s.al.requested ≡ true
   pub control_is : control_word s ≡ control
 
@@ -91,6 +103,7 @@ pub record IsRefused (from : State) (s : SlaveState) : Type 0 where
   pub no_request : s.al.requested ≡ false
 
 abbrev pub Rises : Rise → SlaveState → Type 0
+Rises Falls s = HasFallen s
 Rises (Stays state) s = StaysIn state s
 Rises (Climbs from to) s = IsStepUp from to × (IsAsked from (state_number to) s ⊎ (IsIn to s ⊎ IsRefused from s))
 
@@ -151,10 +164,17 @@ pub record IsDownAt (f m : Bool) (s : SlaveState) : Type 0 where
   pub fmmus : f ≡ true → (k : ℕ) → k < 64 → slice_index s.memory (fmmus + k) ≡ 0
   pub managers : m ≡ true → AreClear s
 
+-- the same, perhaps with an error
+pub record IsLoweredAt (f m : Bool) (s : SlaveState) : Type 0 where
+  pub low : HasFallen s
+  pub fmmus : f ≡ true → (k : ℕ) → k < 64 → slice_index s.memory (fmmus + k) ≡ 0
+  pub managers : m ≡ true → AreClear s
+
 abbrev pub Reached : ℕ → Stage → SlaveState → Type 0
 Reached i Before s = Unit {0}
-Reached i Called s = ((s.al.requested ≡ true) × (control_word s ≡ init_request)) ⊎ IsInInit s
+Reached i Called s = ((s.al.requested ≡ true) × (control_word s ≡ init_request)) ⊎ HasFallen s
 Reached i (Down f m) s = IsDownAt f m s
+Reached i (Lowered f m) s = IsLoweredAt f m s
 Reached i (Up c) s = IsUpAt i c s
 
 -- ---- with faults and resets

@@ -1,5 +1,5 @@
 -- A start-up that nothing disturbs: each frame passes all slaves in order, each slave serves once, and the frame comes back.
-use Rattle.std.specs.Prelude.{ℕ, zero, suc, ◌<◌, ◌≤◌, ◌≡◌, List, [], ◌∷◌, length, map, get_or}
+use Rattle.std.specs.Prelude.{ℕ, zero, suc, ◌<◌, ◌≤◌, ◌≡◌, List, [], ◌∷◌, length, map, get_or, is_some}
 use Rattle.ec_device.specs.declared.slave_type.Device.{Device}
 use Rattle.ec_device.specs.Types.{SlaveKind, plain_kind, device_identity}
 use Rattle.ec_frame.specs.Datagram.{Datagram, IsDatagram}
@@ -13,7 +13,10 @@ use Rattle.ec_frame.specs.Names.{name_datagram}
 use Rattle.ec_start.specs.Actions.{datagram_of, frame_of}
 use Rattle.ec_start.specs.Running.{StartState, action_of, sending, taken, IsStartAnswer}
 use Rattle.ec_bringup.specs.Standing.{IsOfKind}
+use Rattle.ec_start.specs.declared.action.Feed.{Feed}
 use Rattle.ec_start.specs.Planned.{IsStartable}
+use Rattle.ec_start.specs.Scripts.{is_hardware}
+use Rattle.ec_bringup.specs.Fed.{AreFeedsOf, ArePredicted}
 use Rattle.ec_bringup.specs.Complete.{IsComplete}
 
 -- ---- which slaves
@@ -80,6 +83,14 @@ pub record AreDevices (ps : List SlavePlan) (ss : List SlaveState) : Type 0 wher
 pub record ArePlans (ps : List SlavePlan) : Type 0 where
   pub planned : (i : ℕ) → i < length ps → IsStartable (plan_at ps i)
   pub complete : (i : ℕ) → i < length ps → IsComplete (plan_at ps i)
+  -- all types are of a table with `hardware`, or none is
+  pub alike : (i : ℕ) → i < length ps → is_some (plan_at ps i).kind.hardware ≡ is_hardware ps
+
+-- and of the parts that are fed
+pub record ArePlansWith (ps : List SlavePlan) (fs : List Feed) : Type 0 where
+  pub plans : ArePlans ps
+  pub feeds : AreFeedsOf ps fs
+  pub predicted : ArePredicted ps fs
 
 -- ---- whole frames
 

@@ -1,11 +1,12 @@
 //! Laws of the definitions. Each function does nothing: its contract is the law.
 
-ghost use Rattle.ec_bringup.specs.Keeping.{StandingLaw, GoneLaw, ForOthersLaw, FrameLaw};
+ghost use Rattle.ec_bringup.specs.Keeping.{StandingLaw, GoneLaw, ForOthersLaw, FeedLaw, FrameLaw};
+ghost use Rattle.ec_bringup.specs.Fed.{PartsArePredicted, PartsCanBeFed};
 ghost use Rattle.ec_bringup.specs.Runs.{BeginningLaw, StartUpLaw};
 ghost use Rattle.ec_bringup.specs.Undisturbed.{RoundLaw};
 ghost use Rattle.ec_bringup.specs.Devices.{DevicesLaw, IdentitiesLaw, RingLaw, SlavesOfLaw, SwitchedOnLaw, TypedSlavesLaw};
 ghost use Rattle.ec_bringup.specs.Applied.{AppliedUpLaw};
-ghost use Rattle.ec_bringup.specs.ComesUp.{AgainLaw, ComesUpLaw, CompiledPlansLaw, CompiledUpLaw};
+ghost use Rattle.ec_bringup.specs.ComesUp.{AgainLaw, ComesUpLaw, CompiledPlansLaw, CompiledUpLaw, PlainUpLaw};
 
 /// After every run of a new segment (`Starting`) that makes it ready, each slave works as the plan says, or it had a fault or a
 /// reset since the first frame of that start-up was sent.
@@ -18,10 +19,22 @@ pub fn beginning()
     ensures { BeginningLaw }
 {}
 
-/// A start-up that nothing disturbs is Ready after one frame for each action of its script. Its slaves are devices of the plan's
-/// types, in any state.
+/// A start-up that nothing disturbs is Ready after one frame for each action of its script, and one for each part before each that
+/// asks for OP or looks for it. Its slaves are devices of the plan's types, in any state.
 pub fn comes_up()
     ensures { ComesUpLaw }
+{}
+
+/// Without `hardware` it is Ready after one frame for each action of its script.
+pub fn comes_up_without_hardware()
+    ensures { PlainUpLaw }
+{}
+
+/// The parts of a plan of the link compiler can be fed, and come back with the counters that are expected.
+#[tactic(auto, using(crate::proofs::Script::FeedsOfPlans::parts_can_be_fed, crate::proofs::Script::FeedsOfPlans::parts_are_predicted))]
+pub fn parts_are_fed()
+    ensures fed { PartsCanBeFed }
+    ensures predicted { PartsArePredicted }
 {}
 
 /// This also holds whatever the slaves' applications read and write between the frames of the start-up.
@@ -64,6 +77,11 @@ pub fn gone()
 /// A datagram for another slave changes nothing of a slave that has, or had, its station address. It comes out as it went in.
 pub fn for_others()
     ensures { ForOthersLaw }
+{}
+
+/// A frame that feeds a part leaves each slave as it was, but that its outputs are awaited no more.
+pub fn feed()
+    ensures { FeedLaw }
 {}
 
 /// A frame of the start-up that passes a slave brings it where the action leads, if the frame may come back as done.

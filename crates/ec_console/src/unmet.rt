@@ -1,6 +1,7 @@
 //! Why what a line expects isn't so: what was and what was expected, in words with names of the table.
 use ec_asking::AlStatus;
 use ec_diagnostic::Printable;
+use ec_link::Variable;
 use ec_script::{Comparison, Expectation, MasterView, ValueTest, state_name};
 use ec_table::{Table, VariableRow};
 use std::fmt;
@@ -17,7 +18,7 @@ pub struct Missed<'v, 'p> {
     pub status: Option<AlStatus>,
 }
 
-/// A value of a variable.
+/// A value of a variable, printed as the number that it is for people.
 #[derive(Clone, Copy)]
 struct Value<'t> {
     row: &'t VariableRow,
@@ -34,13 +35,23 @@ enum Wanted {
 }
 
 impl Wanted {
-    /// Whether a value is as expected.
-    fn holds(self, value: u64) -> bool {
+    /// Whether a value of a variable is as expected.
+    fn holds(self, row: &VariableRow, value: u64) -> bool {
         match self {
             Wanted::Value(number) => value == number,
-            Wanted::Test(test) => test.holds(value),
+            Wanted::Test(test) => test.holds(variable_of(row), value),
             Wanted::Misfit => false,
         }
+    }
+}
+
+/// The variable of a row, for tests and numbers; where it begins in the image makes no difference to them.
+fn variable_of(row: &VariableRow) -> Variable {
+    Variable {
+        direction: row.direction,
+        from: 0,
+        bits: row.bits,
+        signed: row.signed,
     }
 }
 
@@ -93,7 +104,7 @@ impl Missed<'_, '_> {
         let name = Printable(row.name.as_str());
         match (self.value, wanted) {
             (None, _) => write!(f, "no slave publishes all of {name}")?,
-            (Some(value), wanted) if wanted.holds(value) => {
+            (Some(value), wanted) if wanted.holds(row, value) => {
                 write!(f, "{name} isn't the same at all of its slaves")?
             }
             (Some(value), _) => write!(f, "{name} is {}", Value { row, value })?,
@@ -172,9 +183,7 @@ impl Missed<'_, '_> {
 
 impl fmt::Display for Value<'_> {
     fn fmt<W: fmt::Write>(&self, f: &mut fmt::Formatter<W>) -> fmt::Result {
-        // Here alone it shows whether a variable has a sign. None has one yet.
-        let Value { row: _, value } = *self;
-        write!(f, "{value}")
+        write!(f, "{}", variable_of(self.row).number(self.value))
     }
 }
 

@@ -4,3 +4,5 @@ pub mod Limits
 pub mod Objects
 -- the constants of the code are the limits of the definitions
 pub mod Constants
+-- numbers and places of managers, and the two names of an address
+pub mod Naming

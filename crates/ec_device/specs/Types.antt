@@ -7,11 +7,13 @@ use Rattle.ec_device.specs.declared.slave_type.Mailbox.{Mailbox}
 use Rattle.ec_device.specs.declared.slave_type.Device.{Device}
 use Rattle.ec_device.specs.declared.slave_type.Identity.{Identity}
 use Rattle.ec_device.specs.declared.slave_type.Face.{Face}
+use Rattle.ec_device.specs.declared.hardware.Hardware.{Hardware}
 
 -- the value of a `SlaveType`
 pub record SlaveKind : Type 0 where
   pub device : Device
   pub mailbox : Option Mailbox
+  -- where its outputs and its inputs begin, inside the slave
   pub out_start : ℕ
   pub in_start : ℕ
   pub outputs : List Pdo
@@ -20,6 +22,8 @@ pub record SlaveKind : Type 0 where
   pub lrw : Bool
   -- what a full slave shows besides
   pub face : Option Face
+  -- what it says of real devices
+  pub hardware : Option Hardware
 
 -- what a slave of the device shows, which has a serial number of its own
 abbrev pub device_identity : Device → ℕ → Identity
@@ -83,7 +87,7 @@ pub record IsWithinLimits (m : Option Mailbox) (outs ins : List Pdo) : Type 0 wh
   pub outputs : ArePdos first_output_index outs
   pub inputs : ArePdos first_input_index ins
 
--- a type without PDOs, without a mailbox and without a face, which takes part in LRW
+-- a type without PDOs, mailbox, face and hardware, which takes part in LRW
 abbrev pub plain_kind : SlaveKind
 plain_kind = record {
   device = record { vendor = 0; product = 0; revision = 0 };
@@ -94,4 +98,5 @@ plain_kind = record {
   inputs = [];
   lrw = true;
   face = None;
+  hardware = None;
 }

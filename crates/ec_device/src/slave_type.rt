@@ -1,8 +1,10 @@
 //! Types of slaves: device, mailbox, PDOs and entries.
-ghost use Rattle.std.specs.Prelude.{◌≡◌, ◌≤◌, ◌↔◌, length, All, AllPairs, ◌≢◌, IsTrue, IfSome, IfOk, Some, None};
+ghost use Rattle.std.specs.Prelude.{◌≡◌, ◌<◌, ◌≤◌, ◌↔◌, length, All, AllPairs, ◌≢◌, IsTrue, IfSome, IfOk, Some, None};
 ghost use Rattle.std.specs.Option.{option_copied};
+ghost use Rattle.ec_device.specs.Hardware.{IsHardware, manager_number, manager_place, other_name, has_firmware, fmmu_count, takes_any_revision, out_manager, in_manager};
 ghost use Rattle.ec_device.specs.Types.{IsEntry, IsPdo, ArePdos, IsMailbox, IsFace, IsWithinLimits, device_identity, device_of, pdo_bits, pdos_bits, plain_kind, first_output_index, first_input_index};
 
+use crate::hardware::{Hardware, MAX_FMMUS, ProcessManager};
 use ec_listed::Listed;
 use std::alloc::{AllocError, Global};
 use std::marker::Model;
@@ -111,10 +113,12 @@ pub struct SlaveType {
     inputs: Listed<Pdo>,
     lrw: bool,
     face: Option<Face>,
+    hardware: Option<Hardware>,
 }
 
 impl Model for SlaveType {
     ghost use Rattle.std.specs.Option.{ForSome};
+    ghost use Rattle.ec_device.specs.Hardware.{IsHardware};
     ghost use Rattle.ec_device.specs.Types.{SlaveKind, IsFace, IsWithinLimits};
 
     ghost Value = { SlaveKind };
@@ -128,9 +132,10 @@ impl Model for SlaveType {
       inputs = t.inputs;
       lrw = t.lrw;
       face = t.face;
+      hardware = t.hardware;
     } };
 
-    ghost invariant = { λ t. IsWithinLimits t.mailbox t.outputs t.inputs × ForSome t.face IsFace };
+    ghost invariant = { λ t. IsWithinLimits t.mailbox t.outputs t.inputs × ForSome t.face IsFace × ForSome t.hardware (IsHardware t.mailbox) };
 }
 
 impl Device {
@@ -268,7 +273,8 @@ impl SlaveType {
     }
 
     /// The type of these parts, which `is_within_limits` accepts. `out_start` and `in_start` are
-    /// the addresses of the output and the input sync manager. It has no face.
+    /// the addresses of the output and the input sync manager, inside the slave. It has no face and no
+    /// hardware.
     pub fn new(
         device: Device,
         mailbox: Option<Mailbox>,
@@ -288,6 +294,7 @@ impl SlaveType {
           inputs = inputs;
           lrw = lrw;
           face = None;
+          hardware = None;
         } }
     {
         SlaveType {
@@ -299,6 +306,7 @@ impl SlaveType {
             inputs,
             lrw,
             face: None,
+            hardware: None,
         }
     }
 
@@ -320,6 +328,7 @@ impl SlaveType {
             inputs: Listed::new(alloc),
             lrw: true,
             face: None,
+            hardware: None,
         }
     }
 
@@ -336,6 +345,7 @@ impl SlaveType {
             inputs,
             lrw: has_lrw,
             face,
+            hardware,
         } = self;
         Ok(SlaveType {
             device: *device,
@@ -346,6 +356,7 @@ impl SlaveType {
             inputs: copied_pdos(alloc, inputs.as_slice())?,
             lrw: *has_lrw,
             face: copied_face(alloc, face)?,
+            hardware: *hardware,
         })
     }
 
@@ -365,6 +376,109 @@ impl SlaveType {
         self.face.as_ref()
     }
 
+    /// The type is one of real devices from now on, with this part in place of the one that it had. Its `out_start`
+    /// stays, so it must be an address inside the slave already.
+    pub fn describe(&mut self, hardware: Hardware)
+        requires { IsHardware self.old.mailbox hardware }
+        ensures { self.new ≡ record self.old { hardware = Some hardware } }
+    {
+        self.hardware = Some(hardware);
+    }
+
+    /// What the type says of real devices; none of a table without `hardware`.
+    pub fn hardware(&self) -> Option<&Hardware>
+        ensures value { option_copied result ≡ self.now.hardware }
+        ensures limits { IfSome result (λ h. IsHardware self.now.mailbox h.now) }
+    {
+        self.hardware.as_ref()
+    }
+
+    /// The number of the sync manager at a place: mailbox out, mailbox in, outputs, inputs.
+    pub fn manager_number(&self, place: usize) -> usize
+        requires { place < 4 }
+        ensures value { result ≡ manager_number self.now.hardware place }
+        ensures few { result < 4 }
+    {
+        match &self.hardware {
+            None => place,
+            Some(hardware) => hardware.number_at(place),
+        }
+    }
+
+    /// The place of the sync manager with a number.
+    pub fn manager_place(&self, number: usize) -> usize
+        requires { number < 4 }
+        ensures value { result ≡ manager_place self.now.hardware number }
+        ensures few { result < 4 }
+    {
+        match &self.hardware {
+            None => number,
+            Some(hardware) => hardware.place_at(number),
+        }
+    }
+
+    /// The address in a register that names an address inside the slave, and the address inside the slave that a
+    /// register names: each is the other's.
+    pub fn other_name(&self, address: u16) -> u16
+        ensures { result ≡ other_name self.now.hardware address }
+    {
+        match &self.hardware {
+            None => address,
+            Some(hardware) => hardware.other_name(address),
+        }
+    }
+
+    /// The number and the control byte of the outputs' manager.
+    pub fn out_manager(&self) -> ProcessManager
+        ensures { result ≡ out_manager self.now.hardware }
+    {
+        match &self.hardware {
+            None => ProcessManager::usual_outputs(),
+            Some(hardware) => hardware.out_manager,
+        }
+    }
+
+    /// The number and the control byte of the inputs' manager.
+    pub fn in_manager(&self) -> ProcessManager
+        ensures { result ≡ in_manager self.now.hardware }
+    {
+        match &self.hardware {
+            None => ProcessManager::usual_inputs(),
+            Some(hardware) => hardware.in_manager,
+        }
+    }
+
+    /// Whether its slaves have firmware; without it, AL status is a copy of AL control.
+    pub fn has_firmware(&self) -> bool
+        ensures { result ≡ has_firmware self.now.hardware }
+    {
+        match &self.hardware {
+            None => true,
+            Some(hardware) => hardware.has_firmware,
+        }
+    }
+
+    /// How many FMMUs its slaves have, from number 0 on.
+    pub fn fmmu_count(&self) -> u8
+        ensures value { result ≡ fmmu_count self.now.hardware }
+        ensures few { result ≤ 4 }
+    {
+        match &self.hardware {
+            None => MAX_FMMUS,
+            Some(hardware) => hardware.fmmus,
+        }
+    }
+
+    /// Whether a device of any revision is one of the type.
+    pub fn takes_any_revision(&self) -> bool
+        ensures { result ≡ takes_any_revision self.now.hardware }
+    {
+        match &self.hardware {
+            None => false,
+            Some(hardware) => hardware.any_revision,
+        }
+    }
+
     /// The device that the type's slaves are; the serial number is each slave's own.
     pub fn device(&self) -> Device
         ensures { result ≡ self.now.device }
@@ -380,14 +494,14 @@ impl SlaveType {
         self.mailbox
     }
 
-    /// The address of the output sync manager.
+    /// The address of the output sync manager, inside the slave.
     pub fn out_start(&self) -> u16
         ensures { result ≡ self.now.out_start }
     {
         self.out_start
     }
 
-    /// The address of the input sync manager.
+    /// The address of the input sync manager, inside the slave.
     pub fn in_start(&self) -> u16
         ensures { result ≡ self.now.in_start }
     {

@@ -1,15 +1,15 @@
 -- A register that keeps writes reads what a datagram wrote there: register by register.
-use Rattle.std.specs.Prelude.{ℕ, ◌-◌, ◌<◌, ◌≡◌, ◌≢◌, ◌==◌, ◌&&◌, List, length, get_or, slice_index, Bool, true, false, if◌then◌else◌, Option, None, is_some}
+use Rattle.std.specs.Prelude.{ℕ, ◌-◌, ◌<◌, ◌≡◌, ◌≢◌, ◌==◌, ◌&&◌, List, length, get_or, slice_index, Bool, true, false, not, if◌then◌else◌, Option, None, is_some}
 use Rattle.std.specs.Int.{to_le_bytes, w16}
 use Rattle.std.specs.List.{list_any}
 use Rattle.std.specs.Option.{option_map_or}
 use Rattle.std.proofs.Common.{ap, arith, inl, inr, sym, subst, refl, ◌∙◌}
-use Rattle.std.proofs.lemmas.Bool.{cases_Bool, cases_eq, false_from_ne_true, ne_eqb, and_parts, and_from}
+use Rattle.std.proofs.lemmas.Bool.{cases_Bool, cases_eq, false_from_ne_true, ne_eqb, and_parts, and_from, and_left}
 use Rattle.std.proofs.lemmas.List.Folds.{list_any_at}
 use Rattle.ec_bits.specs.Bits.{within}
 use Rattle.ec_bits.proofs.AnyLaws.{if_true, if_false, within_parts}
 use Rattle.ec_dl.specs.DataLink.{DataLink, dl_byte, dl_stores, dl_takes, dl_written, dl_status, status_word, bytes_stored, stored_index, stored_registers}
-use Rattle.ec_dl.specs.Laws.{StoredAreSix, OnlyTakenIsStored, OneStoredIsTaken, WritesAreReadBack}
+use Rattle.ec_dl.specs.Laws.{PlainSlavesHideThem, StoredAreSix, OnlyTakenIsStored, OneStoredIsTaken, WritesAreReadBack}
 
 -- the registers of a full slave
 abbrev on : Bool → List ℕ → DataLink
@@ -215,6 +215,15 @@ stored_cases P p0 p1 p2 p3 p4 p5 a h = elim (stored_are_six a h) [
 pub untaken : OnlyTakenIsStored
 unfolding dl_written
 untaken d from bytes h = if_false _ _ _ h
+
+-- a slave without a face hides all of them
+pub plain_hidden : PlainSlavesHideThem
+unfolding dl_byte dl_takes
+plain_hidden d h = record {
+  reads = λ a. if_true _ _ _ (ap not h);
+  takes = λ from count. and_left _ _ h;
+  stays = λ from bytes. hidden d from bytes h;
+}
 
 -- one that is kept is taken
 reaches : (from count a : ℕ) → within from count a ≡ true → is_some (stored_index a) ≡ true → reached from count ≡ true

@@ -40,5 +40,6 @@ outputs_from a p bytes = overlay (zeros (bytes_of_bits a.outs)) (λ k. if nat_lt
 abbrev pub inputs_into : Area → LogicalSpan → List ℕ → List ℕ → List ℕ
 inputs_into a p inputs bytes = overlay bytes (λ i. if within a.in_at a.ins (p.from + i) then Some (bit inputs (p.from + i - a.in_at)) else None)
 
+-- the ring has written the value, which is awaited no more
 abbrev pub with_published : SyncManager → List ℕ → SyncManager
-with_published m value = record m { buffer = publishing m.buffer value }
+with_published m value = record m { buffer = publishing m.buffer value; awaited = false }

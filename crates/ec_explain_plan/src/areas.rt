@@ -1,14 +1,17 @@
 //! The memory that the sync managers of a slave take.
 use crate::places::SlaveAt;
+use ec_device::{PINS, PINS_BYTES, PINS_INSIDE};
 use ec_diagnostic::Counted;
 use ec_regs::registers::{RAM_END, RAM_START};
 use ec_table::Direction;
 use std::fmt;
 
-/// The output register of a device without firmware, four bytes.
-const OUTPUT_REGISTER: usize = 0x0F00;
+/// The register of the pins: the outputs of a device without a processor, four bytes.
+const OUTPUT_REGISTER: usize = PINS as usize;
 /// The first address after it.
-const OUTPUT_REGISTER_END: usize = 0x0F04;
+const OUTPUT_REGISTER_END: usize = (PINS + PINS_BYTES) as usize;
+/// Where such outputs lie inside a slave. No other area of its type begins there.
+pub const REGISTER_INSIDE: usize = PINS_INSIDE as usize;
 
 /// What an area holds. It is printed in words.
 #[derive(Clone, Copy, PartialEq, Eq)]
@@ -39,6 +42,8 @@ pub struct Area {
     span: usize,
     /// The length of its value in bytes: a third of `span` if it has three buffers.
     length: usize,
+    /// Whether its slave is hardware with outputs in the output register.
+    has_pins: bool,
 }
 
 impl Area {
@@ -51,12 +56,26 @@ impl Area {
     /// The area of a slave that holds this content, if it has one.
     fn of(at: &SlaveAt<'_>, content: Content) -> Option<Area> {
         let process = &at.kind.process;
-        match content {
+        let area = match content {
             Content::Outputs => {
                 Area::process(content, process.out_start, at.bits(Direction::Out))
             }
             Content::Inputs => Area::process(content, process.in_start, at.bits(Direction::In)),
             _ => Area::mailbox(at, content),
+        }?;
+        match &at.kind.hardware {
+            Some(hardware) if hardware.has_pins => Some(area.beside_pins()),
+            _ => Some(area),
+        }
+    }
+
+    /// The same area of hardware with outputs in the output register; those have one buffer.
+    fn beside_pins(self) -> Area {
+        let is_register = self.is_output_register();
+        Area {
+            span: if is_register { self.length } else { self.span },
+            has_pins: true,
+            ..self
         }
     }
 
@@ -73,6 +92,7 @@ impl Area {
             start: usize::from(start),
             span: length,
             length,
+            has_pins: false,
         })
     }
 
@@ -87,6 +107,7 @@ impl Area {
             start: usize::from(start),
             span: length.saturating_mul(3),
             length,
+            has_pins: false,
         })
     }
 
@@ -95,14 +116,33 @@ impl Area {
         self.start.saturating_add(self.span)
     }
 
-    /// Whether it shares an address with another.
-    fn meets(&self, other: &Area) -> bool {
-        self.start < other.end() && other.start < self.end()
+    /// Where it begins and ends inside the slave: outputs in the output register lie elsewhere, with three buffers.
+    fn inside(&self) -> (usize, usize) {
+        if self.has_pins && self.is_output_register() {
+            let place = self.start.saturating_sub(OUTPUT_REGISTER);
+            let start = REGISTER_INSIDE.saturating_add(place);
+            return (start, start.saturating_add(self.length.saturating_mul(3)));
+        }
+        (self.start, self.end())
     }
 
-    /// Whether it leaves the RAM.
+    /// Whether it begins in the RAM, of a slave whose outputs lie there in place of the output register.
+    pub fn is_register_inside(&self) -> bool {
+        self.has_pins && self.start >= REGISTER_INSIDE && self.end() <= RAM_END
+    }
+
+    /// Whether it shares an address with another.
+    fn meets(&self, other: &Area) -> bool {
+        let ((start, end), (other_start, other_end)) = (self.inside(), other.inside());
+        start < other_end && other_start < end
+    }
+
+    /// Whether it isn't where it can be: in the RAM, or outputs of hardware in the output register.
     fn leaves(&self) -> bool {
-        self.start < RAM_START || RAM_END < self.end()
+        if self.has_pins && self.is_output_register() {
+            return OUTPUT_REGISTER_END < self.end();
+        }
+        self.start < RAM_START || RAM_END < self.end() || self.is_register_inside()
     }
 }
 

@@ -1,5 +1,5 @@
 //! Why a slave has no place in a plan: refusals 20 to 23.
-use crate::areas::{Area, first_free, first_met, first_outside};
+use crate::areas::{Area, REGISTER_INSIDE, first_free, first_met, first_outside};
 use crate::places::{SlaveAt, assignment_key, word_of};
 use crate::twice::explain_entry_twice;
 use ec_device::MAX_BITS;
@@ -9,9 +9,12 @@ use ec_regs::registers::{RAM_END, RAM_START};
 use ec_table::{Direction, Table};
 
 /// What to do about a device whose outputs lie in its output register.
-const LEAVE_OUT: &str =
-    "leave the device out: a link table can't describe one whose outputs lie at 0x0F00, its output \
-    register; with another address the master becomes ready, and nothing is switched";
+const DESCRIBE: &str =
+    "write `hardware = true` above all tables, and `out_manager` in the type: 0x0F00 is a terminal's \
+    output register; with another address the master becomes ready, and nothing is switched";
+/// What to do if they don't end there.
+const SHORTEN: &str =
+    "take entries away: the output register of a terminal has the four bytes 0x0F00 to 0x0F03";
 
 /// Adds remarks on a fault of the slave at a place.
 pub fn explain_slave(diagnosis: &mut Diagnosis<'_>, table: &Table, fault: LinkFault, slave: usize) {
@@ -32,13 +35,23 @@ fn explain_outside_ram(diagnosis: &mut Diagnosis<'_>, at: &SlaveAt<'_>) {
         return;
     };
     let (kind, last) = (at.kind.name.as_str(), RAM_END - 1);
-    diagnosis.at_row(
-        "slave",
-        at.place,
-        format_args!(
-            "in {at} an area of its type {kind} is not within 0x{RAM_START:04X} to 0x{last:04X}"
-        ),
-    );
+    if area.is_register_inside() {
+        diagnosis.at_row(
+            "slave",
+            at.place,
+            format_args!(
+                "in {at} an area of its type {kind} begins within 0x{REGISTER_INSIDE:04X} to 0x{last:04X}, where a simulated slave keeps the outputs of 0x0F00"
+            ),
+        );
+    } else {
+        diagnosis.at_row(
+            "slave",
+            at.place,
+            format_args!(
+                "in {at} an area of its type {kind} is not within 0x{RAM_START:04X} to 0x{last:04X}"
+            ),
+        );
+    }
     explain_area(diagnosis, at.row.type_index, area);
     advise_start(diagnosis, at, area);
 }
@@ -62,7 +75,8 @@ fn explain_overlap(diagnosis: &mut Diagnosis<'_>, at: &SlaveAt<'_>) {
 /// Says where an area could begin, if another address helps.
 fn advise_start(diagnosis: &mut Diagnosis<'_>, at: &SlaveAt<'_>, moved: Area) {
     if moved.is_output_register() {
-        return diagnosis.advise(LEAVE_OUT);
+        let is_described = at.kind.hardware.is_some();
+        return diagnosis.advise(if is_described { SHORTEN } else { DESCRIBE });
     }
     let content = moved.content;
     match first_free(at, &moved) {

@@ -1,7 +1,7 @@
 //! The steps of a start-up in words.
 use ec_diagnostic::Counted;
 use ec_link::Plan;
-use ec_start::{Action, SdoRequest, Startup, Transfer, step_at};
+use ec_start::{Action, SdoRequest, SiiAccess, Startup, Transfer, step_at};
 use std::fmt;
 
 /// A step of a start-up. It is printed in words.
@@ -39,7 +39,14 @@ impl fmt::Display for Step {
             Action::NameSlave { .. } => f.write_str("it is given its station address"),
             Action::AskWord { which, .. } => f.write_str(asked_word(which)),
             Action::AwaitWord { which, .. } => f.write_str(awaited_word(which)),
-            Action::SetManager { number, .. } => f.write_str(set_manager(number)),
+            Action::SetManager {
+                place,
+                register,
+                ..
+            } => {
+                let number = register.number;
+                write!(f, "sync manager {number}, of {}, is set", role_of(place))
+            }
             Action::SetFmmu { number, .. } => f.write_str(set_fmmu(number)),
             Action::AskState { state, .. } => write!(f, "it is asked for {}", state.name()),
             Action::AwaitState { state, .. } => write!(f, "it is awaited in {}", state.name()),
@@ -51,6 +58,19 @@ impl fmt::Display for Step {
                 let request = Request(request);
                 write!(f, "a reply is awaited in its mailbox: {request}")
             }
+            Action::AwaitInitState => {
+                f.write_str("all slaves are awaited in INIT, with an error or without")
+            }
+            Action::ClearAllFmmus => {
+                f.write_str("all FMMUs that a slave can have are cleared, of all slaves")
+            }
+            Action::ClearAllManagers => {
+                f.write_str("all sync managers that a slave can have are cleared, of all slaves")
+            }
+            Action::AssignSii(access) => f.write_str(assigned_sii(access)),
+            Action::ClearSiiError => f.write_str("the SII errors of all slaves are cleared"),
+            Action::AwaitCleanInit { .. } => f.write_str("it is awaited in INIT, without an error"),
+            Action::FeedPart(_) => f.write_str("a part of the process data is fed with zeros"),
         }
     }
 }
@@ -117,13 +137,22 @@ fn awaited_word(which: usize) -> &'static str {
     }
 }
 
-/// The words for the step that sets a sync manager, by its number.
-fn set_manager(number: usize) -> &'static str {
-    match number {
-        0 => "sync manager 0, of its receive mailbox, is set",
-        1 => "sync manager 1, of its send mailbox, is set",
-        2 => "sync manager 2, of the outputs, is set",
-        _ => "sync manager 3, of the inputs, is set",
+/// The words for who gets the SII.
+fn assigned_sii(access: SiiAccess) -> &'static str {
+    match access {
+        SiiAccess::Forced => "the SII of each slave is taken from its device",
+        SiiAccess::Master => "the SII of each slave is the master's",
+        SiiAccess::Device => "the SII of each slave is given back to its device",
+    }
+}
+
+/// What a sync manager is for, by its place in the plan.
+fn role_of(place: usize) -> &'static str {
+    match place {
+        0 => "its receive mailbox",
+        1 => "its send mailbox",
+        2 => "the outputs",
+        _ => "the inputs",
     }
 }
 

@@ -2,7 +2,7 @@
 use crate::rule::{DIRECTIONS, Lacking, TRUTHS, is_key, word_of};
 use ec_device::{MAX_ENTRIES, MAX_NAME, MAX_PDOS};
 use ec_diagnostic::{Diagnosis, MarkedPart, PathStep, Printable, printed};
-use ec_table::{ENTRY, LINK_BITS, MAILBOX, Position, Rule, Section, Shape, Version};
+use ec_table::{ENTRY, Format, LINK_BITS, MAILBOX, MANAGER, Position, Rule, Section, Shape};
 use std::fmt;
 use toml::{Table, Value};
 
@@ -88,6 +88,7 @@ impl<'s> Mark<'s> {
             Rule::Name => hold_name(value),
             Rule::Number(low, high) => hold_number(value, low, high),
             Rule::Mailbox => self.hold_numbers(value, &MAILBOX),
+            Rule::Manager => self.hold_numbers(value, &MANAGER),
             Rule::Indices(first, last) => self.hold_indices(value, first, last),
             Rule::Pdos(first, last) => self.hold_pdos(value, first, last),
             Rule::Index => hold_index(value, 0, u16::MAX),
@@ -143,7 +144,7 @@ impl<'s> Mark<'s> {
         let pdo = "a PDO, `{ index = .., entries = [..] }`,";
         let members = wanted(value, value.as_table(), pdo)?;
         self.hold_pdo_keys(members)?;
-        for (key, rule, _) in Shape::Pdo.keys(Version::Two) {
+        for (key, rule, _) in Shape::Pdo.keys(Format::full()) {
             if let Some(value) = members.get(*key) {
                 self.enter(PathStep::Key(*key));
                 match *rule {
@@ -158,7 +159,7 @@ impl<'s> Mark<'s> {
 
     /// Checks the keys of a PDO.
     fn hold_pdo_keys(&mut self, members: &'s Table) -> Result<(), Misfit<'s>> {
-        let keys = Shape::Pdo.keys(Version::Two);
+        let keys = Shape::Pdo.keys(Format::full());
         for key in members.keys() {
             if !is_key(key.as_str(), keys) {
                 self.enter(PathStep::Key(key.as_str()));

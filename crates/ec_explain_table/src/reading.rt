@@ -1,9 +1,10 @@
 //! Why a text is no link table: refusals 11 to 15.
+use crate::impossible::explain_impossible;
 use crate::misfit::{Mark, Misfit};
 use crate::numbers::Numbers;
 use crate::rule::{Lacking, Named, Taken, is_key, shape_of, word_of};
 use ec_diagnostic::{Diagnosis, MarkedPart, Meant, Nearest, PathStep, Printable, Span};
-use ec_table::{Fault, Key, Position, Rule, Section, Shape, Version};
+use ec_table::{Fault, Format, Key, Position, Rule, Section, Shape, Version};
 use toml::{Table, Value};
 
 /// The keys by which elements name others, and the sections of those.
@@ -14,10 +15,11 @@ static ASSIGNMENTS: [(&str, &str); 2] = [("out", "rxpdo"), ("in", "txpdo")];
 
 /// An element of a document, or the document as a whole.
 #[derive(Clone, Copy)]
-struct Element<'d> {
+pub struct Element<'d> {
     document: &'d Table,
     place: Position,
-    members: &'d Table,
+    /// What stands in it.
+    pub members: &'d Table,
 }
 
 impl<'d> Element<'d> {
@@ -42,9 +44,13 @@ impl<'d> Element<'d> {
         shape_of(self.place.section)
     }
 
-    /// The keys that it may have, those of the newest version of the format.
+    /// The keys that it may have: those of the newest version of the format, for hardware if the document is.
     fn keys(self) -> &'static [Key] {
-        self.shape().keys(Version::Two)
+        let hardware = format_of(self.document).hardware;
+        self.shape().keys(Format {
+            version: Version::Two,
+            hardware,
+        })
     }
 
     /// The text under a key.
@@ -53,7 +59,7 @@ impl<'d> Element<'d> {
     }
 
     /// A part of what stands under a key of it.
-    fn under(self, key: &'d str, part: MarkedPart) -> Mark<'d> {
+    pub fn under(self, key: &'d str, part: MarkedPart) -> Mark<'d> {
         Mark::under(self.place, key, part)
     }
 }
@@ -100,13 +106,16 @@ fn explain_document(diagnosis: &mut Diagnosis<'_>, document: &Table, fault: Faul
 
 /// Adds remarks on a key that is unknown or missing.
 fn explain_bad_key(diagnosis: &mut Diagnosis<'_>, element: Element<'_>) {
-    let (shape, version) = (element.shape(), version_of(element.document));
+    let (shape, format) = (element.shape(), format_of(element.document));
     for key in element.members.keys() {
         let key = key.as_str();
-        if !is_key(key, shape.keys(Version::Two)) {
+        if !is_key(key, shape.keys(Format::full())) {
             return explain_unknown_key(diagnosis, element, key);
         }
-        if !is_key(key, shape.keys(version)) {
+        if !is_key(key, element.keys()) {
+            return explain_hardware_key(diagnosis, element, key);
+        }
+        if !is_key(key, shape.keys(format)) {
             return explain_early_unit(diagnosis, element);
         }
     }
@@ -150,12 +159,30 @@ fn explain_early_unit(diagnosis: &mut Diagnosis<'_>, element: Element<'_>) {
     diagnosis.advise("write `version = 2` above all tables, or leave `unit` out");
 }
 
-/// The version of the document.
-fn version_of(document: &Table) -> Version {
-    match document.get("version") {
+/// Adds remarks on a key for hardware in a table that isn't.
+fn explain_hardware_key(diagnosis: &mut Diagnosis<'_>, element: Element<'_>, key: &str) {
+    let shown = Printable(key);
+    let mark = Mark::under(element.place, key, MarkedPart::Key);
+    mark.say(
+        diagnosis,
+        format_args!("`{shown}` is a key only of a table with `hardware = true`"),
+    );
+    diagnosis.advise(format_args!(
+        "write `hardware = true` above all tables, or leave `{shown}` out"
+    ));
+}
+
+/// The format of the document.
+fn format_of(document: &Table) -> Format {
+    let version = match document.get("version") {
         Some(version) if version.as_integer() == Some(2) => Version::Two,
         _ => Version::One,
-    }
+    };
+    let hardware = match document.get("hardware") {
+        Some(truth) => truth.as_bool() == Some(true),
+        None => false,
+    };
+    Format { version, hardware }
 }
 
 /// Adds remarks on the keys that an element lacks.
@@ -178,6 +205,7 @@ fn explain_bad_value(diagnosis: &mut Diagnosis<'_>, element: Element<'_>) {
     match element.place.section {
         Section::Top => explain_bad_top(diagnosis, element),
         _ if explain_misfit(diagnosis, element) => (),
+        Section::Type => explain_impossible(diagnosis, element),
         _ => explain_fixed(diagnosis, element),
     }
 }
@@ -187,6 +215,7 @@ fn explain_bad_top(diagnosis: &mut Diagnosis<'_>, element: Element<'_>) {
     for (key, rule, _) in element.keys() {
         let is_bad = match *rule {
             Rule::Tables => explain_bad_section(diagnosis, element.document, *key),
+            Rule::Truth => explain_bad_truth(diagnosis, element, *key),
             rule => explain_bad_version(diagnosis, element, *key, rule),
         };
         if is_bad {
@@ -205,6 +234,19 @@ fn explain_bad_version(
     let is_bad = explain_misfit_under(diagnosis, element, key, rule);
     if is_bad {
         diagnosis.advise("give version 1 or 2; 2 has sync units, the key `unit` of a slave");
+    }
+    is_bad
+}
+
+/// Adds remarks on a value that is no truth value, under a key of the document that takes one; returns whether it is none.
+fn explain_bad_truth(
+    diagnosis: &mut Diagnosis<'_>,
+    element: Element<'_>,
+    key: &'static str,
+) -> bool {
+    let is_bad = explain_misfit_under(diagnosis, element, key, Rule::Truth);
+    if is_bad {
+        diagnosis.advise(format_args!("give `{key}` true or false, or leave it out"));
     }
     is_bad
 }
@@ -295,7 +337,7 @@ fn meant_in_pdo(diagnosis: &mut Diagnosis<'_>, misfit: Misfit<'_>) -> Option<&'s
     let Misfit::NoKey(key) = misfit else {
         return None;
     };
-    meant_key(diagnosis, key, Shape::Pdo.keys(Version::Two))
+    meant_key(diagnosis, key, Shape::Pdo.keys(Format::full()))
 }
 
 /// Adds remarks on a slave that assigns PDOs of its own choice, though its type has no mailbox.

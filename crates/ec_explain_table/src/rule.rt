@@ -1,7 +1,7 @@
 //! The keys of a link table, and what each takes, in words.
 use ec_device::{MAX_NAME, MAX_PDOS};
 use ec_diagnostic::comma;
-use ec_table::{Key, MAILBOX, Rule, Section, Shape};
+use ec_table::{Key, MAILBOX, MANAGER, Rule, Section, Shape};
 use std::fmt;
 use toml::Table;
 
@@ -117,6 +117,7 @@ impl fmt::Display for Taken {
                 )
             }
             Rule::Mailbox => write_mailbox(f),
+            Rule::Manager => write_manager(f),
             Rule::Direction => f.write_str(DIRECTIONS),
             Rule::LinkBits => f.write_str(
                 "[first bit of the variable, first bit of the entry, number of bits]",
@@ -141,5 +142,14 @@ fn write_mailbox<W: fmt::Write>(f: &mut fmt::Formatter<W>) -> fmt::Result {
     write!(
         f,
         "[receive start, receive size, send start, send size], each start {start} to {end} and each size {least} to {most}"
+    )
+}
+
+/// Prints what a sync manager takes.
+fn write_manager<W: fmt::Write>(f: &mut fmt::Formatter<W>) -> fmt::Result {
+    let ((_, last), (_, most)) = (MANAGER[0], MANAGER[1]);
+    write!(
+        f,
+        "[number, control byte], the number 0 to {last} and the byte 0 to 0x{most:02X}"
     )
 }

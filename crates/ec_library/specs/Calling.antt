@@ -9,6 +9,7 @@ use Rattle.ec_ring.specs.Rings.{HasPassedRing, IsNoFrame}
 use Rattle.ec_slave.specs.Interface.{Got, Op}
 use Rattle.ec_slave.specs.Application.{get_size, input_put, inputs_put, output_got, output_taken, outputs_shown, outputs_taken, put_size}
 use Rattle.ec_slave.specs.Faulting.{faulted}
+use Rattle.ec_slave.specs.Serving.{served}
 use Rattle.ec_slave.specs.State.{SlaveState}
 use Rattle.ec_start.specs.Errors.{error_number}
 use Rattle.ec_start.specs.Running.{asked, given_up, next_frame, outcome_of}
@@ -19,7 +20,7 @@ use Rattle.ec_frame.specs.Frame.{IsFrame}
 use Rattle.ec_asking.specs.Questions.{question_frame}
 use Rattle.ec_asking.specs.declared.question.Question.TheVariants.{Status}
 use Rattle.ec_session.specs.Sessions.{IsGiven, IsNextFrame, resumed, unit_taken, variable_named}
-use Rattle.ec_library.specs.Polls.{AsksAgain}
+use Rattle.ec_library.specs.Polls.{Notes, feeds_part}
 use Rattle.ec_library.specs.Statuses.{TakesStatus, next_count, status_asked}
 use Rattle.ec_library.specs.declared.done.Closed.{Closed}
 use Rattle.ec_library.specs.declared.done.Done.{Done}
@@ -51,9 +52,9 @@ pub record AreCopied (bytes room : List ℕ) (done : Done) (shown : List ℕ) : 
 
 -- ---- the start-up
 
--- the frame is noted if there is one: it may ask again what the last one asked
+-- the frame is noted if there is one
 abbrev pub IsNoted : Bool → Polling → List ℕ → Polling → Type 0
-IsNoted true old frame new = (IsTrue new.is_again ↔ AsksAgain old.last.items frame) × (new.last.items ≡ take 1472 frame)
+IsNoted true old frame new = Notes (feeds_part frame) old frame new
 IsNoted false old frame new = new ≡ old
 
 pub record AsksNext (old : HeldMaster) (room : List ℕ) (done : Done) (shown : List ℕ) (new : HeldMaster) : Type 0 where
@@ -220,6 +221,17 @@ inputs_behind false inputs s = s
 pub record WritesInputs (old : List SlaveState) (index : ℕ) (inputs : List ℕ) (done : Done) (new : List SlaveState) : Type 0 where
   pub told : done ≡ inputs_result (length inputs) (slice_get old index)
   pub slaves : AtSlave old index (inputs_behind done.is_done inputs) new
+
+-- the slave whose application has written these inputs, if they are enough
+abbrev pub inputs_given : List ℕ → SlaveState → SlaveState
+inputs_given inputs s = inputs_behind (nat_le (put_size s) (length inputs)) inputs s
+
+-- The slave at a place makes a firmware step. Then its application writes its inputs whole, if so many are given, and reads its
+-- outputs whole, if they fit into the room.
+pub record Exchanges (old : List SlaveState) (index : ℕ) (inputs room : List ℕ) (done : Done) (shown : List ℕ) (new : List SlaveState) : Type 0 where
+  pub there : (s : SlaveState) → slice_get old index ≡ Some s → AreCopied (outputs_whole (inputs_given inputs (served s))) room done shown
+  pub none : slice_get old index ≡ None → (done ≡ counted false 0) × (shown ≡ room)
+  pub slaves : AtSlave old index (λ (s : SlaveState). outputs_behind done.is_done (inputs_given inputs (served s))) new
 
 -- the application of the slave at a place has a fault; done if the slave is in OP
 pub record HasFault (old : List SlaveState) (index : ℕ) (done : Bool) (new : List SlaveState) : Type 0 where

@@ -44,13 +44,9 @@ pub record Explains (failure : Option StartError) (room : List ℕ) (done : Done
 
 -- ---- variables
 
--- whether a variable is signed: a table can't say so yet
-abbrev pub is_signed : Variable → Bool
-is_signed v = false
-
 abbrev pub place_result : Option Variable → Placed
 place_result None = record { is_there = false; is_output = false; is_signed = false; bits = 0; from = 0 }
-place_result (Some v) = record { is_there = true; is_output = is_out v.direction; is_signed = is_signed v; bits = v.bits; from = v.from }
+place_result (Some v) = record { is_there = true; is_output = is_out v.direction; is_signed = v.signed; bits = v.bits; from = v.from }
 
 abbrev pub name_of : Option VariableRow → List ℕ
 name_of None = []
@@ -72,7 +68,7 @@ signed false bits value = value
 -- a variable's value with its sign; 0 if there is no such variable
 abbrev pub signed_at : HeldMaster → Option Variable → ℕ
 signed_at h None = 0
-signed_at h (Some v) = signed (is_signed v) v.bits (value_at h.session.master (Some v))
+signed_at h (Some v) = signed v.signed v.bits (value_at h.session.master (Some v))
 
 pub record GetsSigned (h : HeldMaster) (variable : ℕ) (read : VariableValue) : Type 0 where
   pub there : read.is_there ≡ is_some (slice_get h.session.master.plan.variables variable)

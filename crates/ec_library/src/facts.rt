@@ -2,7 +2,7 @@
 ghost use Rattle.std.specs.Prelude.{◌≡◌, Some, slice_get};
 ghost use Rattle.ec_link.specs.LinkRuns.{is_out};
 ghost use Rattle.ec_library.specs.Calling.{AreCopied};
-ghost use Rattle.ec_library.specs.Facts.{Explains, GetsSigned, ReturnsFailure, counters_in, counters_of, counters_result, extended, failure_name, is_signed, name_at, place_result, signed};
+ghost use Rattle.ec_library.specs.Facts.{Explains, GetsSigned, ReturnsFailure, counters_in, counters_of, counters_result, extended, failure_name, name_at, place_result, signed};
 ghost use Rattle.ec_library.specs.Holding.{failure_of};
 
 use crate::done::{Done, VariableValue, copy_into, counted};
@@ -10,7 +10,7 @@ use crate::held::HeldMaster;
 use arrayvec::ArrayString;
 use ec_cycle::Report;
 use ec_explain_start::StartFault;
-use ec_link::{ExpectedCounters, Variable};
+use ec_link::ExpectedCounters;
 use ec_start::StartError;
 use ec_table::Direction;
 use std::fmt::Write as _;
@@ -77,7 +77,7 @@ pub fn place(held: &HeldMaster, variable: usize) -> Placed
         Some(place) => Placed {
             is_there: true,
             is_output: is_output(place.direction),
-            is_signed: is_signed(place),
+            is_signed: place.signed,
             bits: place.bits,
             from: place.from,
         },
@@ -153,14 +153,6 @@ fn is_output(direction: Direction) -> bool
         Direction::Out => true,
         Direction::In => false,
     }
-}
-
-/// Whether a variable is signed. A table can't say so yet, so none is.
-fn is_signed(place: &Variable) -> bool
-    ensures { result ≡ is_signed place.now }
-{
-    let _ = place;
-    false
 }
 
 /// A value of a variable as a number of 64 bits in two's complement.

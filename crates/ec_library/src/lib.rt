@@ -8,7 +8,7 @@
 ghost use Rattle.std.specs.Prelude.{◌≡◌, true, is_some, length, slice_get};
 ghost use Rattle.ec_slave.specs.Serving.{served};
 ghost use Rattle.ec_slave.specs.State.{power_on};
-ghost use Rattle.ec_library.specs.Calling.{AreCopied, AsksNext, AsksState, Begins, Closes, Does, Finds, Gets, GivesUp, HasFault, Leads, Passes, Reads, ReadsOutputs, Sets, SetsOutputs, CopiesInputs, CopiesPart, Takes, ReturnsPhase, ReturnsUnit, Writes, WritesInputs, counted};
+ghost use Rattle.ec_library.specs.Calling.{AreCopied, AsksNext, AsksState, Begins, Closes, Does, Exchanges, Finds, Gets, GivesUp, HasFault, Leads, Passes, Reads, ReadsOutputs, Sets, SetsOutputs, CopiesInputs, CopiesPart, Takes, ReturnsPhase, ReturnsUnit, Writes, WritesInputs, counted};
 ghost use Rattle.ec_library.specs.Facts.{Explains, GetsSigned, ReturnsFailure, counters_of, counters_result, failure_name, name_at, place_result};
 ghost use Rattle.ec_library.specs.Holding.{failure_of};
 ghost use Rattle.ec_library.specs.Opening.{HasMaster, HasSlaves};
@@ -632,6 +632,27 @@ pub extern "C" fn ecat_c_segment_inputs(
 {
     let mut slaves = reveal_segment(segment).into_box(alloc);
     let done = segments::write_inputs(&mut slaves, slave, inputs);
+    *out = conceal_segment(RawBox::of(slaves));
+    done
+}
+
+/// Makes a firmware step of a slave, whose application then writes its inputs and reads its outputs, each whole. The count is how many
+/// bytes of outputs it may read, 0 if the slave isn't there.
+#[tactic(auto, using(crate::proofs::Leading::leads))]
+#[unsafe(no_mangle)]
+pub extern "C" fn ecat_c_segment_exchange(
+    alloc: Global,
+    segment: SegmentHandle,
+    slave: usize,
+    inputs: &[u8],
+    outputs: &mut [u8],
+    out: &mut SegmentHandle,
+) -> Done
+    requires { is_some segment.slaves ≡ true }
+    ensures { Leads segment.slaves out.new.slaves (λ old new. Exchanges old slave inputs.now outputs.old result outputs.new new) }
+{
+    let mut slaves = reveal_segment(segment).into_box(alloc);
+    let done = segments::exchange(&mut slaves, slave, inputs, outputs);
     *out = conceal_segment(RawBox::of(slaves));
     done
 }

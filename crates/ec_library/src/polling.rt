@@ -1,14 +1,14 @@
 //! Whether the next frame of a start-up polls again.
 ghost use Rattle.std.specs.Prelude.{◌≡◌, ◌≤◌, ◌↔◌, [], false, length, take, IsTrue};
-ghost use Rattle.ec_library.specs.Polls.{AsksAgain};
+ghost use Rattle.ec_library.specs.Polls.{AsksAgain, Notes, feeds_part};
 
-use ec_frame::Frame;
 use ec_frame::field::{FRAME_HEADER_LEN, INDEX, MAX_FRAME_LEN, NAME_LEN, OVERHEAD};
+use ec_frame::{Command, Frame};
 
 /// The place of a frame's second datagram, behind the one that names the frame.
 const ASKING: usize = FRAME_HEADER_LEN + OVERHEAD + NAME_LEN;
 
-/// The last frame of a start-up, and whether it asks again what the one before it asked.
+/// The last frame of a start-up that fed no part, and whether the last of all asks again what such a one before it asked.
 #[derive(Drop)]
 pub struct Polling {
     pub last: Frame,
@@ -27,11 +27,14 @@ impl Polling {
         }
     }
 
-    /// Notes the next frame of the start-up, as much of it as a frame has at most.
+    /// Notes the next frame of the start-up, as much of it as a frame has at most. One that feeds a part belongs to the poll behind it.
     pub fn note(&mut self, frame: &[u8])
-        ensures again { IsTrue self.new.is_again ↔ AsksAgain self.old.last.items frame.now }
-        ensures last { self.new.last.items ≡ take 1472 frame.now }
+        ensures { Notes (feeds_part frame.now) self.old frame.now self.new }
     {
+        if feeds_part(frame) {
+            self.is_again = false;
+            return;
+        }
         self.is_again = asks_again(self.last.as_slice(), frame);
         self.last = copy_of(first_bytes(frame));
     }
@@ -54,6 +57,14 @@ fn copy_of(bytes: &[u8]) -> Frame
     let mut frame = Frame::new();
     let _ = frame.try_extend_from_slice(bytes);
     frame
+}
+
+/// Whether a frame of a start-up feeds a part: no other writes logical addresses.
+fn feeds_part(frame: &[u8]) -> bool
+    ensures { result ≡ feeds_part frame.now }
+{
+    frame.len() > ASKING
+        && (frame[ASKING] == Command::Lwr.number() || frame[ASKING] == Command::Lrw.number())
 }
 
 /// Whether a frame of a start-up asks what the frame before it asked: only the names and the indices differ.

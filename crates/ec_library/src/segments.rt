@@ -3,7 +3,7 @@ ghost use Rattle.std.specs.Prelude.{◌≡◌, Some, length};
 ghost use Rattle.ec_slave.specs.Application.{get_size};
 ghost use Rattle.ec_slave.specs.Serving.{served};
 ghost use Rattle.ec_slave.specs.State.{power_on};
-ghost use Rattle.ec_library.specs.Calling.{AreCopied, Does, HasFault, Passes, Reads, ReadsOutputs, Writes, WritesInputs, inputs_behind, inputs_result, outputs_behind, outputs_whole};
+ghost use Rattle.ec_library.specs.Calling.{AreCopied, Does, Exchanges, HasFault, Passes, Reads, ReadsOutputs, Writes, WritesInputs, inputs_behind, inputs_given, inputs_result, outputs_behind, outputs_whole};
 
 use crate::done::{Done, copy_into, counted};
 use ec_ring::Ring;
@@ -86,6 +86,17 @@ pub fn write_inputs(slaves: &mut Ring, index: usize, inputs: &[u8]) -> Done
     put_inputs(slaves.slave_mut(index), inputs)
 }
 
+/// Makes a firmware step of a slave. Its application then writes its inputs whole, if `inputs` has enough bytes, and reads its outputs
+/// whole into `room`, if they fit; done then. The count is how many bytes of outputs it may read now, 0 if the slave isn't there.
+pub fn exchange(slaves: &mut Ring, index: usize, inputs: &[u8], room: &mut [u8]) -> Done
+    ensures { Exchanges slaves.old index inputs.now room.old result room.new slaves.new }
+{
+    if index >= slaves.len() {
+        return counted(false, 0);
+    }
+    exchange_with(slaves.slave_mut(index), inputs, room)
+}
+
 /// The application of a slave has a fault. Returns whether the slave is there and in OP.
 pub fn fault(slaves: &mut Ring, index: usize) -> bool
     ensures { HasFault slaves.old index result slaves.new }
@@ -94,6 +105,16 @@ pub fn fault(slaves: &mut Ring, index: usize) -> bool
         return false;
     }
     slaves.slave_mut(index).fault()
+}
+
+/// A firmware step of a slave; its application writes its inputs whole, if there are enough, and reads its outputs whole, if they fit.
+fn exchange_with(slave: &mut Slave, inputs: &[u8], room: &mut [u8]) -> Done
+    ensures copied { AreCopied (outputs_whole (inputs_given inputs.now (served slave.old))) room.old result room.new }
+    ensures behind { slave.new ≡ outputs_behind result.is_done (inputs_given inputs.now (served slave.old)) }
+{
+    slave.serve();
+    put_inputs(slave, inputs);
+    take_outputs(slave, room)
 }
 
 /// A slave's application reads its outputs whole into `room`, if they fit.

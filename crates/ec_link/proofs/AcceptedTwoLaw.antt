@@ -1,11 +1,12 @@
 -- A table of two sync units, with a mailbox, a slave without LRW, and links both ways: it is sound, and no fault is in it.
-use Rattle.std.proofs.Common.{◌≡◌, ◌≢◌, ℕ, zero, suc, ◌<◌, ◌≤◌, Bool, true, false, List, [], ◌∷◌, refl, subst, arith, Option, Some, None, slice_get}
+use Rattle.std.proofs.Common.{◌≡◌, ◌≢◌, ℕ, zero, suc, ◌<◌, ◌≤◌, Bool, true, false, List, [], ◌∷◌, refl, subst, arith, Option, Some, None, is_some, slice_get}
 use Rattle.std.specs.Option.{ForSome}
 use Rattle.std.specs.List.{All, AllPairs, Contains}
 use Rattle.std.proofs.lemmas.List.Kept.{AllPairs-cons}
 use Rattle.ec_device.specs.declared.slave_type.Entry.{Entry}
 use Rattle.ec_device.specs.declared.slave_type.Pdo.{Pdo}
 use Rattle.ec_device.specs.declared.slave_type.Mailbox.{Mailbox}
+use Rattle.ec_device.specs.declared.hardware.Hardware.{Hardware}
 use Rattle.ec_device.specs.Types.{IsEntry, IsPdo, ArePdos, IsMailbox, first_output_index, first_input_index}
 use Rattle.ec_table.specs.declared.rows.Version.TheVariants.{One, Two}
 use Rattle.ec_table.specs.declared.rows.Direction.TheVariants.{Out, In}
@@ -44,6 +45,9 @@ names_apart a b ne e = ne (cc)
 
 -- ---- types
 
+none_hardware : (h : Hardware) → None ≡ Some h → ⊥
+none_hardware h e = cc
+
 entry_sound : (index bits : ℕ) → 1 ≤ index → 1 ≤ bits → bits ≤ 64 → IsEntry (record { index = index; subindex = 1; bits = bits })
 entry_sound index bits is some few = record { some = some; few = few; gap = λ e. absurd (omega (arith, e, is)) }
 
@@ -74,6 +78,7 @@ type_sound name product m lrw a b is few boxes starts x y n k = record {
   out_start = omega arith;
   in_start = omega arith;
   entries = entries_named name product m lrw a b n k;
+  hardware = λ h e. absurd (none_hardware h e);
 }
 
 no_box : (m : Mailbox) → None ≡ Some m → ⊥
@@ -195,6 +200,10 @@ sound = record {
       (first L (link_to 1 0 0x6000 4) more2 (link_sound 1 0 0x6000 4 (omega arith) (omega arith) (omega arith) (omega arith) (omega arith) (omega arith))
       (first L (link_to 2 1 0x7010 12) more3 (link_sound 2 1 0x7010 12 (omega arith) (omega arith) (omega arith) (omega arith) (omega arith) (omega arith))
       (first L (link_to 3 1 0x6010 16) [] (link_sound 3 1 0x6010 16 (omega arith) (omega arith) (omega arith) (omega arith) (omega arith) (omega arith)) (none L))));
+  format = record {
+    types = first (λ (t : TypeRow). is_some t.hardware ≡ false) split_type (boxed_type ∷ []) refl (first (λ (t : TypeRow). is_some t.hardware ≡ false) boxed_type [] refl (none (λ (t : TypeRow). is_some t.hardware ≡ false)));
+    variables = λ e. let S : VariableRow → Type 0 = λ w. w.signed ≡ false in first S (variable_of 97 Out 4) rest1 refl (first S (variable_of 98 In 4) rest2 refl (first S (variable_of 99 Out 12) rest3 refl (first S (variable_of 100 In 16) [] refl (none S))));
+  };
 }
 
 pub accepted_two : AcceptedTwoLaw

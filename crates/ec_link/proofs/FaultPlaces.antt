@@ -1,11 +1,14 @@
 -- The faults of slaves and of variables, each as its test finds it.
-use Rattle.std.proofs.Common.{◌≡◌, ◌≢◌, ℕ, zero, suc, ◌+◌, ◌<◌, ◌==◌, ◌||◌, ◌⊎◌, not, Bool, true, List, [], ◌∷◌, length, get_or, nat_lt, refl, sym, ap, ◌∙◌, subst, arith, add-one, inl, inr, Some, None, Option, slice_get}
+use Rattle.std.proofs.Common.{◌≡◌, ◌≢◌, ℕ, zero, suc, ◌+◌, ◌<◌, ◌==◌, ◌||◌, ◌⊎◌, not, Bool, true, List, [], ◌∷◌, length, get_or, nat_lt, nat_le, ◌≤◌, refl, sym, ap, ◌∙◌, subst, arith, add-one, inl, inr, Some, None, Option, slice_get}
 use Rattle.std.specs.List.{list_any}
 use Rattle.std.proofs.lemmas.Option.{slice_get_within, get_or_from_slice_get, slice_get_read}
 use Rattle.std.proofs.lemmas.List.{get_or_default}
 use Rattle.std.proofs.lemmas.Map.Keys.{any_passes_from_place}
-use Rattle.std.proofs.lemmas.Bool.{cases_Bool, cases_eq, cases_lt, eqb-true, eqb-false, eq-eqb, ne_eqb, ltb-true, lt-ltb, and_parts, and_from, or_cases, or_left, or_right, not-true, not_from_false}
-use Rattle.ec_bits.specs.Bits.{within}
+use Rattle.std.proofs.lemmas.Bool.{cases_Bool, cases_eq, cases_lt, eqb-true, eqb-false, eq-eqb, ne_eqb, ltb-true, lt-ltb, and_parts, and_from, or_cases, or_left, or_right, not-true, not_from_false, leb-true, le-leb}
+use Rattle.std.specs.Option.{ForSome}
+use Rattle.ec_bits.specs.Bits.{bytes_of_bits, within}
+use Rattle.ec_device.specs.declared.hardware.Hardware.{Hardware}
+use Rattle.ec_device.specs.Hardware.{IsHardware, out_manager, in_manager, other_name, pins_inside}
 use Rattle.ec_bits.proofs.AnyLaws.{within_true, within_parts}
 use Rattle.ec_device.specs.declared.slave_type.Mailbox.{Mailbox}
 use Rattle.ec_regs.specs.declared.manager.SyncManagerSettings.{SyncManagerSettings}
@@ -21,12 +24,15 @@ use Rattle.ec_table.specs.Contents.{Contents}
 use Rattle.ec_table.specs.Objects.{entries_of}
 use Rattle.ec_table.specs.Sound as table
 use Rattle.ec_link.specs.LinkRuns.{is_out}
-use Rattle.ec_link.specs.SlavePlan.{receive_manager, send_manager, process_manager, managers_of, meet, some_meet, leaves_ram}
+use Rattle.ec_link.specs.Sizes.{hardware_of, mapped_bits}
+use Rattle.ec_link.specs.SlavePlan.{receive_manager, send_manager, process_manager, managers_of, manager_in_place, meet, some_meet, leaves_ram, ends_past_pins, begins_at_pins, leaves_pins}
 use Rattle.ec_link.specs.Faults.{in_either, entry_twice, too_many_bits, managers_at, areas_overlap, outside_ram, unit_of_link, differ, units_of_variable, split_variable}
 use Rattle.ec_link.specs.Entries.{names_twice}
 use Rattle.ec_link.specs.FaultLaw.{JoinsUnit}
 use Rattle.ec_link.proofs.FaultSteps.{Tells}
 use Rattle.ec_link.proofs.FaultNames.{any_at, twice_found, twice_from}
+use Rattle.ec_link.proofs.Basics.{or_false}
+use Rattle.ec_link.proofs.ManagersApart.{IsOfBuffer, of_type_outputs, of_type_inputs, three_long}
 use Rattle.ec_link.proofs.SlavesSound.{has_type}
 
 -- ---- of what a slave assigns
@@ -170,32 +176,25 @@ unfolding StartsLow
 send_low None h = λ z. refl
 send_low (Some m) h = λ z. let some = (h m refl).send_some in absurd (omega arith)
 
-outputs_low : (start bits : ℕ) → StartsLow (process_manager start bits 0x24)
+process_low : (start bits control : ℕ) → IsOfBuffer control → StartsLow (process_manager start bits control)
 unfolding StartsLow
-outputs_low start bits = elim (cases_Bool (bits == 0)) [
+process_low start bits control mode = elim (cases_Bool (bits == 0)) [
   | inl none ↦ rw none (λ z. refl)
-  | inr some ↦ rw some (λ z. let few = eqb-false bits 0 some in let pos : 0 < bits = omega arith in absurd (omega arith))
+  | inr some ↦ rw some (λ z. let few = eqb-false bits 0 some in let pos : 0 < bits = omega arith in absurd (omega (arith, z, three_long start (bytes_of_bits bits) control mode)))
 ]
 
-inputs_low : (start bits : ℕ) → StartsLow (process_manager start bits 0x20)
-unfolding StartsLow
-inputs_low start bits = elim (cases_Bool (bits == 0)) [
-  | inl none ↦ rw none (λ z. refl)
-  | inr some ↦ rw some (λ z. let few = eqb-false bits 0 some in let pos : 0 < bits = omega arith in absurd (omega arith))
-]
-
-managers_low : (mailbox : Option Mailbox) (out_start in_start outs ins : ℕ) → ((m : Mailbox) → mailbox ≡ Some m → IsMailbox m) → AllLow (managers_of mailbox out_start in_start outs ins)
+managers_low : (mailbox : Option Mailbox) (o : Option Hardware) (out_start in_start outs ins : ℕ) → ForSome o (IsHardware mailbox) → ((m : Mailbox) → mailbox ≡ Some m → IsMailbox m) → AllLow (managers_of mailbox o out_start in_start outs ins)
 unfolding managers_of
-managers_low mailbox out_start in_start outs ins h =
+managers_low mailbox o out_start in_start outs ins limits h =
     all_cons (receive_manager mailbox) _ (receive_low mailbox h) (all_cons (send_manager mailbox) _ (send_low mailbox h)
-    (all_cons (process_manager out_start outs 0x24) _ (outputs_low out_start outs) (all_cons (process_manager in_start ins 0x20) _ (inputs_low in_start ins) no_more)))
+    (all_cons (process_manager out_start outs (out_manager o).control) _ (process_low out_start outs _ (of_type_outputs mailbox o limits)) (all_cons (process_manager in_start ins (in_manager o).control) _ (process_low in_start ins _ (of_type_inputs mailbox o limits)) no_more)))
 
 at_low : (t : Contents) → table.IsSound t → (s : ℕ) (r : SlaveRow) → slice_get t.slaves s ≡ Some r → AllLow (managers_at t s)
 unfolding managers_at
 at_low t sound s r is =
     let k = has_type t sound s r is in
     let box : (m : Mailbox) → k.row.mailbox ≡ Some m → IsMailbox m = λ m e. k.sound.limits.mailbox m e in
-    rw k.is (managers_low k.row.mailbox k.row.process.out_start k.row.process.in_start (bits_of (entries_of t s Out)) (bits_of (entries_of t s In)) box)
+    rw k.is (managers_low k.row.mailbox k.row.hardware (other_name k.row.hardware k.row.process.out_start) k.row.process.in_start (mapped_bits k.row.hardware (bits_of (entries_of t s Out))) (mapped_bits k.row.hardware (bits_of (entries_of t s In))) (λ x there. (k.sound.hardware x there).limits) box)
 
 pub overlap_tells : (t : Contents) → table.IsSound t → Tells t 24 t.slaves (λ n (s : SlaveRow). areas_overlap t n)
 overlap_tells t sound = record {
@@ -245,16 +244,86 @@ leaves_from m some past =
       | inr above ↦ or_right (nat_lt m.start ram_start) (nat_lt ram_end (m.start + span m)) (lt-ltb ram_end (m.start + span m) above)
     ])
 
+-- ---- the pins
+
+-- as `LeavesPins`, over the managers themselves
+record PinsLeft (o : Option Hardware) (ms : List SyncManagerSettings) : Type 0 where
+  hardware : Hardware
+  there : o ≡ Some hardware
+  pins : hardware.has_pins ≡ true
+  place : ℕ
+  few : place < 4
+  some : 0 < (manager_in_place ms place).length
+  past : let m = manager_in_place ms place in ((place ≡ 2) × (pins_inside + 4 < m.start + m.length)) ⊎ ((place ≢ 2) × (pins_inside ≤ m.start))
+
+of_place : (x : Hardware) (ms : List SyncManagerSettings) (place : ℕ) → x.has_pins ≡ true → place < 4 → place ≢ 2 → begins_at_pins (manager_in_place ms place) ≡ true → PinsLeft (Some x) ms
+of_place x ms place pins few ne h =
+    let p = and_parts (nat_lt 0 (manager_in_place ms place).length) (nat_le pins_inside (manager_in_place ms place).start) h in
+    record { hardware = x; there = refl; pins = pins; place = place; few = few; some = ltb-true 0 _ p.0; past = inr (ne, leb-true pins_inside _ p.1) }
+
+-- the first of two tests that passes, or the second
+pins_is : (o : Option Hardware) (ms : List SyncManagerSettings) → leaves_pins o ms ≡ true → PinsLeft o ms
+pins_is None ms h = cc
+pins_is (Some x) ms h =
+    let both = and_parts x.has_pins (ends_past_pins (manager_in_place ms 2) || list_any begins_at_pins (manager_in_place ms 0 ∷ manager_in_place ms 1 ∷ manager_in_place ms 3 ∷ [])) h in
+    elim (or_cases (ends_past_pins (manager_in_place ms 2)) (list_any begins_at_pins (manager_in_place ms 0 ∷ manager_in_place ms 1 ∷ manager_in_place ms 3 ∷ [])) both.1) [
+      | inl past ↦
+          let p = and_parts (nat_lt 0 (manager_in_place ms 2).length) _ past in
+          record { hardware = x; there = refl; pins = both.0; place = 2; few = omega arith; some = ltb-true 0 _ p.0; past = inl (refl, ltb-true _ _ p.1) }
+      | inr other ↦ elim (or_cases (begins_at_pins (manager_in_place ms 0)) (list_any begins_at_pins (manager_in_place ms 1 ∷ manager_in_place ms 3 ∷ [])) other) [
+        | inl a ↦ of_place x ms 0 both.0 (omega arith) (λ e. absurd (omega (arith, e))) a
+        | inr rest ↦ elim (or_cases (begins_at_pins (manager_in_place ms 1)) (list_any begins_at_pins (manager_in_place ms 3 ∷ [])) rest) [
+          | inl b ↦ of_place x ms 1 both.0 (omega arith) (λ e. absurd (omega (arith, e))) b
+          | inr c ↦ of_place x ms 3 both.0 (omega arith) (λ e. absurd (omega (arith, e))) (sym (or_false (begins_at_pins (manager_in_place ms 3))) ∙ c)
+        ]
+      ]
+    ]
+
+at_place : (ms : List SyncManagerSettings) (n k : ℕ) → n ≡ k → begins_at_pins (manager_in_place ms n) ≡ true → begins_at_pins (manager_in_place ms k) ≡ true
+at_place ms n k e h = subst (λ (m : ℕ). begins_at_pins (manager_in_place ms m) ≡ true) e h
+
+pins_from : (o : Option Hardware) (ms : List SyncManagerSettings) → PinsLeft o ms → leaves_pins o ms ≡ true
+pins_from None ms h = let e = h.there in cc
+pins_from (Some x) ms h =
+    let same : x ≡ h.hardware = let e = h.there in cc in
+    let pins : x.has_pins ≡ true = ap (λ (y : Hardware). y.has_pins) same ∙ h.pins in
+    let first = ends_past_pins (manager_in_place ms 2) in
+    let b = λ (n : ℕ). begins_at_pins (manager_in_place ms n) in
+    and_from x.has_pins _ pins (elim h.past [
+      | inl out ↦
+          let some : 0 < (manager_in_place ms 2).length = subst (λ (m : ℕ). 0 < (manager_in_place ms m).length) out.0 h.some in
+          let past : pins_inside + 4 < (manager_in_place ms 2).start + (manager_in_place ms 2).length = subst (λ (m : ℕ). pins_inside + 4 < (manager_in_place ms m).start + (manager_in_place ms m).length) out.0 out.1 in
+          or_left first _ (and_from _ _ (lt-ltb 0 _ some) (lt-ltb (pins_inside + 4) _ past))
+      | inr other ↦
+          let begins : b h.place ≡ true = and_from _ _ (lt-ltb 0 _ h.some) (le-leb pins_inside _ other.1) in
+          or_right first _ (elim (cases_eq h.place 0) [
+            | inl zero_is ↦ or_left (b 0) _ (at_place ms h.place 0 zero_is begins)
+            | inr not_zero ↦ or_right (b 0) _ (elim (cases_eq h.place 1) [
+              | inl one_is ↦ or_left (b 1) _ (at_place ms h.place 1 one_is begins)
+              | inr not_one ↦ or_right (b 1) _ (or_left (b 3) _ (at_place ms h.place 3 (let two = other.0 in let few = h.few in omega (arith, two, few, not_zero, not_one)) begins))
+            ])
+          ])
+    ])
+
 pub ram_tells : (t : Contents) → Tells t 25 t.slaves (λ n (s : SlaveRow). outside_ram t n)
 ram_tells t = record {
   is = λ clean k r there h.
-      let a = any_at leaves_ram (managers_at t k) h in
-      let w = leaves_is a.row a.hit in
-      record { row = r; there = there; has = record { place = a.place; manager = a.row; there = a.there; some = w.0; past = w.1 } };
+      elim (or_cases (list_any leaves_ram (managers_at t k)) (leaves_pins (hardware_of t k) (managers_at t k)) h) [
+        | inl ram ↦
+            let a = any_at leaves_ram (managers_at t k) ram in
+            let w = leaves_is a.row a.hit in
+            record { row = r; there = there; has = inl (record { place = a.place; manager = a.row; there = a.there; some = w.0; past = w.1 }) }
+        | inr pins ↦
+            let p = pins_is (hardware_of t k) (managers_at t k) pins in
+            record { row = r; there = there; has = inr (record { hardware = p.hardware; there = p.there; pins = p.pins; place = p.place; few = p.few; some = p.some; past = p.past }) }
+      ];
   was = λ clean k at. record {
     row = at.row;
     there = at.there;
-    hit = any_passes_from_place leaves_ram (managers_at t k) at.has.place at.has.manager at.has.there (leaves_from at.has.manager at.has.some at.has.past);
+    hit = elim at.has [
+      | inl ram ↦ or_left (list_any leaves_ram (managers_at t k)) _ (any_passes_from_place leaves_ram (managers_at t k) ram.place ram.manager ram.there (leaves_from ram.manager ram.some ram.past))
+      | inr p ↦ or_right (list_any leaves_ram (managers_at t k)) _ (pins_from (hardware_of t k) (managers_at t k) (record { hardware = p.hardware; there = p.there; pins = p.pins; place = p.place; few = p.few; some = p.some; past = p.past }))
+    ];
   };
 }
 

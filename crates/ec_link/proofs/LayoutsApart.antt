@@ -13,7 +13,7 @@ use Rattle.ec_link.proofs.Seats.{each_set, each_push, can_join-some, can_join-jo
 use Rattle.ec_link.specs.Limits.{IsSize, IsSmall}
 
 abbrev pub no_size : SlaveSize
-no_size = record { outs = 0; ins = 0; unit = 0; lrw = true }
+no_size = record { outs = 0; ins = 0; bits = record { outs = 0; ins = 0 }; unit = 0; lrw = true }
 
 abbrev pub size_at : List SlaveSize → ℕ → SlaveSize
 size_at zs s = get_or zs s no_size

@@ -1,6 +1,6 @@
 -- What the lists of a plan keep.
 use Rattle.std.proofs.Common.{◌≡◌, ℕ, zero, suc, ◌+◌, ◌*◌, ◌^◌, ◌<◌, ◌≤◌, ltb, Bool, true, false, List, [], ◌∷◌, length, get_or, All, refl, sym, ap, ◌∙◌, subst, arith, inl, inr, Some, None, Option, option_map}
-use Rattle.std.proofs.lemmas.List.{get_or_past}
+use Rattle.std.proofs.lemmas.List.{get_or_past, get_or_default}
 use Rattle.std.proofs.lemmas.List.Elements.{All-get_or, All-from_get_or}
 use Rattle.std.proofs.lemmas.Bool.{cases_Bool, cases_lt, false≢true}
 use Rattle.std.proofs.lemmas.Bool.Decides.{nat_tests}
@@ -20,10 +20,11 @@ use Rattle.ec_link.specs.declared.plan.PartPlan.{PartPlan}
 use Rattle.ec_link.specs.declared.settings.SlavePlan.{SlavePlan}
 use Rattle.ec_link.specs.declared.fault.LinkFault.{LinkFault}
 use Rattle.ec_link.specs.declared.fault.LinkFault.TheVariants.{EntryTwice, TooManyBits, TooManySlaves, TooManyParts}
-use Rattle.ec_link.specs.Sizes.{each_from, size_of, table_sizes}
+use Rattle.ec_link.specs.Sizes.{each_from, size_of, hardware_of, table_sizes}
+use Rattle.ec_link.proofs.MappedBits.{few_mapped}
 use Rattle.ec_link.specs.Layout.{part_so_far, seat_at, layout}
 use Rattle.ec_link.specs.Faults.{◌orelse◌, first_at, each_slave, entry_twice, too_many_bits, too_many, slave_fault, part_fault}
-use Rattle.ec_link.specs.Plan.{part_plan, addressed, first_address, part_at, logical_from, settings_at, kind_of, AreInParts}
+use Rattle.ec_link.specs.Plan.{part_plan, addressed, first_address, part_at, no_part, logical_from, settings_at, kind_of, AreInParts}
 use Rattle.ec_link.proofs.EachFrom.{length-each_from, get_or-each}
 use Rattle.ec_link.proofs.LayoutsApart.{no_size, size_at, layout_sound}
 use Rattle.ec_link.specs.Limits.{IsSize, IsSmall, AreSeated, AreSmall}
@@ -81,7 +82,7 @@ size_fits t s r h u =
           let e : ltb 2048 (bits_of (entries_of t s Out)) ≡ false = grind (arith, nat_tests, outs) in
           elim (cases_lt 2048 (bits_of (entries_of t s In))) [
             | inl lt ↦ let i : ltb 2048 (bits_of (entries_of t s In)) ≡ true = grind (arith, nat_tests, lt) in let f = rw (e, i) at h in absurd (false≢true (sym f))
-            | inr ins ↦ record { outs = outs; ins = ins; unit = u }
+            | inr ins ↦ record { outs = few_mapped (hardware_of t s) _ outs; ins = few_mapped (hardware_of t s) _ ins; unit = u }
           ]
     ]
 
@@ -154,8 +155,15 @@ share_part : (t : Contents) (ps : List PartPlan) (seats : List Seat) (s : ℕ) (
 unfolding settings_at
 share_part t ps seats s r = refl
 
-pub planned_from : (t : Contents) (ps : List PartPlan) (seats : List Seat) (xs : List SlavePlan) → length t.slaves ≤ 64 → AreSeated (length t.slaves) ps seats → xs ≡ each_from (settings_at t ps seats) 0 t.slaves → AreInParts xs ps
-planned_from t ps seats xs few h e =
+-- a frame has room for each part
+pub planned_small : (parts : List Part) (ps : List PartPlan) → ps ≡ addressed first_address parts → ((k : ℕ) → (part_so_far parts k).bits ≤ 11376) → All (λ (k : PartPlan). k.bytes ≤ 1422) ps
+planned_small parts ps e low k d lt =
+    let below : k < length parts = omega (arith, lt, ap length e, length-addressed first_address parts) in
+    let at : get_or (addressed first_address parts) k d ≡ part_plan (first_address + before parts k) (part_so_far parts k) = get_or_default (addressed first_address parts) k d no_part (omega (arith, below, length-addressed first_address parts)) ∙ part_at-addressed first_address parts k below in
+    omega (arith, ap (λ (x : PartPlan). x.bytes) (ap (λ xs. get_or xs k d) e ∙ at), low k)
+
+pub planned_from : (t : Contents) (ps : List PartPlan) (seats : List Seat) (xs : List SlavePlan) → length t.slaves ≤ 64 → All (λ (k : PartPlan). k.bytes ≤ 1422) ps → AreSeated (length t.slaves) ps seats → xs ≡ each_from (settings_at t ps seats) 0 t.slaves → AreInParts xs ps
+planned_from t ps seats xs few small h e =
     let count : length xs ≡ length t.slaves = ap length e ∙ length-each_from (settings_at t ps seats) 0 t.slaves in
     record {
       few = omega (arith, count);
@@ -164,6 +172,7 @@ planned_from t ps seats xs few h e =
           let is : (get_or xs s x).share.part ≡ (seat_at seats s).part =
           ap (λ (y : SlavePlan). y.share.part) (ap (λ ys. get_or ys s x) e ∙ get_or-each (settings_at t ps seats) t.slaves s x no_row below) ∙ share_part t ps seats s (get_or t.slaves s no_row) in
           omega (arith, is, h.there s below);
+      small = small;
     }
 
 -- ---- the type that is read

@@ -1,7 +1,7 @@
--- A table advertised in full changes nothing in its plan except that each slave's kind has a face.
-use Rattle.std.specs.Prelude.{◌≡◌, ℕ, option_map}
+-- A table advertised in full changes nothing in its plan except that each slave's kind has the face that the table gives it.
+use Rattle.std.specs.Prelude.{◌≡◌, ℕ, option_and_then}
 use Rattle.ec_table.specs.Contents.{Contents, advertised_full}
-use Rattle.ec_table.specs.Objects.{type_of, face_of}
+use Rattle.ec_table.specs.Objects.{type_of, face_shown}
 use Rattle.ec_link.specs.declared.settings.SlavePlan.{SlavePlan}
 use Rattle.ec_link.specs.Sizes.{each_from}
 use Rattle.ec_link.specs.Faults.{compile_fault}
@@ -9,7 +9,7 @@ use Rattle.ec_link.specs.Plan.{PlanState, plan_of}
 
 -- the settings of slave s, whose kind has the face that the table gives it
 abbrev pub with_face : Contents → ℕ → SlavePlan → SlavePlan
-with_face t s x = record x { kind = record x.kind { face = option_map (face_of t s) (type_of t s) } }
+with_face t s x = record x { kind = record x.kind { face = option_and_then (face_shown t s) (type_of t s) } }
 
 -- a plan whose slaves have the faces that the table gives them
 abbrev pub with_faces : Contents → PlanState → PlanState

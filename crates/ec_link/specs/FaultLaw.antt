@@ -3,6 +3,8 @@
 use Rattle.std.specs.Prelude.{ℕ, ◌+◌, ◌<◌, ◌≤◌, ◌≡◌, ◌≢◌, ◌⊎◌, List, length, true, Some, None, slice_get}
 use Rattle.ec_bits.specs.Bits.{within}
 use Rattle.ec_device.specs.declared.slave_type.Entry.{Entry}
+use Rattle.ec_device.specs.declared.hardware.Hardware.{Hardware}
+use Rattle.ec_device.specs.Hardware.{pins_inside}
 use Rattle.ec_regs.specs.declared.manager.SyncManagerSettings.{SyncManagerSettings}
 use Rattle.ec_regs.specs.Managers.{span}
 use Rattle.ec_regs.specs.Memory.{ram_start, ram_end}
@@ -18,7 +20,8 @@ use Rattle.ec_table.specs.Sound.{IsSound}
 use Rattle.ec_link.specs.declared.fault.LinkFault.{LinkFault}
 use Rattle.ec_link.specs.declared.fault.LinkFault.TheVariants.{WrongDirection, NoEntry, OutsideEntry, LinkedTwice, EntryTwice, TooManyBits, TooManySlaves, TooManyParts, AreasOverlap, OutsideRam, SplitVariable}
 use Rattle.ec_link.specs.LinkRuns.{other, direction_of, variable_bits}
-use Rattle.ec_link.specs.Sizes.{table_sizes}
+use Rattle.ec_link.specs.Sizes.{hardware_of, table_sizes}
+use Rattle.ec_link.specs.SlavePlan.{manager_in_place}
 use Rattle.ec_link.specs.Layout.{layout}
 use Rattle.ec_link.specs.Faults.{managers_at, compile_fault, fault_number, fault_value}
 
@@ -126,6 +129,16 @@ pub record LeavesRam (t : Contents) (slave : ℕ) : Type 0 where
   pub some : 0 < manager.length
   pub past : (manager.start < ram_start) ⊎ (ram_end < manager.start + span manager)
 
+-- its outputs are pins and cover a byte past 0x0F03, or another of its managers begins where the pins lie inside it
+pub record LeavesPins (t : Contents) (slave : ℕ) : Type 0 where
+  pub hardware : Hardware
+  pub there : hardware_of t slave ≡ Some hardware
+  pub pins : hardware.has_pins ≡ true
+  pub place : ℕ
+  pub few : place < 4
+  pub some : 0 < (manager_in_place (managers_at t slave) place).length
+  pub past : let m = manager_in_place (managers_at t slave) place in ((place ≡ 2) × (pins_inside + 4 < m.start + m.length)) ⊎ ((place ≢ 2) × (pins_inside ≤ m.start))
+
 -- ---- of a variable
 
 -- the link at a place joins the variable and a slave of the unit
@@ -166,7 +179,7 @@ HasFault t (TooManyBits k) = AtIndex t.slaves (λ r. HasTooManyBits t k) k
 HasFault t (TooManySlaves k) = (k ≡ length t.slaves) × (64 < k)
 HasFault t (TooManyParts k) = (k ≡ length (layout (table_sizes t)).parts) × (32 < k)
 HasFault t (AreasOverlap k) = AtIndex t.slaves (λ r. HaveOneByte t k) k
-HasFault t (OutsideRam k) = AtIndex t.slaves (λ r. LeavesRam t k) k
+HasFault t (OutsideRam k) = AtIndex t.slaves (λ r. LeavesRam t k ⊎ LeavesPins t k) k
 HasFault t (SplitVariable k) = AtIndex t.variables (IsSplit t k) k
 
 -- by the number of the kind, and within a kind by the index

@@ -10,6 +10,7 @@ use Rattle.ec_table.specs.declared.rows.SlaveRow.{SlaveRow}
 use Rattle.ec_table.specs.declared.rows.VariableRow.{VariableRow}
 use Rattle.ec_table.specs.declared.rows.LinkRow.{LinkRow}
 use Rattle.ec_table.specs.Contents.{Contents}
+use Rattle.ec_device.specs.Hardware.{other_name}
 use Rattle.ec_device.specs.Objects.{bits_of}
 use Rattle.ec_table.specs.Objects.{type_of, entries_of}
 use Rattle.ec_regs.specs.declared.manager.SyncManagerSettings.{SyncManagerSettings}
@@ -19,9 +20,9 @@ use Rattle.ec_table.specs.Errors.{or_memory}
 use Rattle.ec_link.specs.Errors.{LinkError}
 use Rattle.ec_table.specs.declared.or_memory.OrMemory.TheVariants.{Memory, Refused}
 use Rattle.ec_link.specs.Entries.{names_twice}
-use Rattle.ec_link.specs.Sizes.{table_sizes}
+use Rattle.ec_link.specs.Sizes.{hardware_of, slave_bits, table_sizes}
 use Rattle.ec_link.specs.Layout.{layout}
-use Rattle.ec_link.specs.SlavePlan.{managers_of, some_meet, leaves_ram}
+use Rattle.ec_link.specs.SlavePlan.{managers_of, some_meet, is_outside}
 use Rattle.ec_link.specs.LinkRuns.{is_out, other, direction_of, variable_bits, run_toward, run_of, run_bits, table_link_runs, linked_twice}
 
 -- the place of the first element at which a test holds; the test sees the place
@@ -60,13 +61,13 @@ too_many_bits t s = in_either (λ d. nat_lt 2048 (bits_of (entries_of t s d)))
 
 -- the managers that a plan sets in slave s
 unfoldable pub managers_at : Contents → ℕ → List SyncManagerSettings
-managers_at t s = option_map_or (λ (r : TypeRow). managers_of r.mailbox r.process.out_start r.process.in_start (bits_of (entries_of t s Out)) (bits_of (entries_of t s In))) (type_of t s) []
+managers_at t s = option_map_or (λ (r : TypeRow). managers_of r.mailbox r.hardware (other_name r.hardware r.process.out_start) r.process.in_start (slave_bits t s Out) (slave_bits t s In)) (type_of t s) []
 
 abbrev pub areas_overlap : Contents → ℕ → Bool
 areas_overlap t s = some_meet (managers_at t s)
 
 abbrev pub outside_ram : Contents → ℕ → Bool
-outside_ram t s = list_any leaves_ram (managers_at t s)
+outside_ram t s = is_outside (hardware_of t s) (managers_at t s)
 
 -- ---- of a variable
 

@@ -2,13 +2,14 @@
 -- `compile` accepts and of each plan that is usable. Nothing above opens a definition of this crate; what is not said here can
 -- change without them.
 use Rattle.std.specs.Option.{ForSome, option_map_or}
-use Rattle.std.specs.Prelude.{ℕ, ◌+◌, ◌*◌, ◌<◌, ◌≤◌, ◌≡◌, ◌&&◌, List, [], ◌∷◌, length, get_or, slice_get, Bool, true, false, Some, None, All, Contains}
+use Rattle.std.specs.Prelude.{ℕ, ◌+◌, ◌*◌, ◌<◌, ◌≤◌, ◌≡◌, ◌&&◌, List, [], ◌∷◌, length, get_or, slice_get, Bool, true, false, ◌%◌, is_some, Some, None, All, Contains}
 use Rattle.ec_bits.specs.Bits.{within, bytes_of_bits}
+use Rattle.ec_device.specs.Hardware.{IsHardware, out_manager, in_manager}
 use Rattle.ec_device.specs.Objects.{bits_assigned}
 use Rattle.ec_device.specs.Types.{IsWithinLimits}
 use Rattle.ec_device.specs.declared.slave_type.Pdo.{Pdo}
 use Rattle.ec_regs.specs.Fmmus.{no_fmmu}
-use Rattle.ec_regs.specs.Managers.{no_settings, is_set, span, outputs_control, inputs_control}
+use Rattle.ec_regs.specs.Managers.{no_settings, is_set, span}
 use Rattle.ec_regs.specs.Memory.{ram_start, ram_end}
 use Rattle.ec_regs.specs.declared.manager.SyncManagerSettings.{SyncManagerSettings}
 use Rattle.ec_fmmu.specs.Runs.{RunOf}
@@ -26,7 +27,8 @@ pub use Rattle.ec_link.specs.LinkRuns.{IsLinked, is_out}
 pub use Rattle.ec_link.specs.Meaning.{Linked, in_source, slave_at, Meaning, meaning, share_of, area_at, span_of_part, IsLaid, out_source, no_slave, area_of}
 pub use Rattle.ec_link.specs.Plan.{PlanState, plan_of, part_at, no_part, part_of}
 pub use Rattle.ec_link.specs.Shares.{same_counters, unit_of_part, predicted, Gave, counters_of, sum_of, lwr_count, lrd_count, lrw_count, whole_share, nothing_given, has_outs, has_ins, share_in}
-pub use Rattle.ec_link.specs.SlavePlan.{process_manager, fmmus_of}
+pub use Rattle.ec_link.specs.Sizes.{mapped_bits, HasRoom, MappedBitsHaveRoom}
+pub use Rattle.ec_link.specs.SlavePlan.{process_manager, fmmus_of, by_number}
 pub use Rattle.ec_link.specs.Sound.{manager_of, fmmu_of, IsSound, AreManagers}
 pub use Rattle.ec_link.specs.Usable.{IsUsable, IsInImage}
 use Rattle.ec_link.specs.Variables.{AreApart}
@@ -108,21 +110,40 @@ pub record IsOfItsType (x : SlavePlan) : Type 0 where
   pub inputs : table.IsAssignment x.kind.mailbox x.kind.inputs x.inputs
   pub few_outputs : length x.outputs ≤ length x.kind.outputs
   pub few_inputs : length x.inputs ≤ length x.kind.inputs
-  pub outs : x.share.outs ≡ bits_assigned x.kind.outputs x.outputs
-  pub ins : x.share.ins ≡ bits_assigned x.kind.inputs x.inputs
+  pub out_bits : x.bits.outs ≡ bits_assigned x.kind.outputs x.outputs
+  pub in_bits : x.bits.ins ≡ bits_assigned x.kind.inputs x.inputs
+  pub outs : x.share.outs ≡ mapped_bits x.kind.hardware (bits_assigned x.kind.outputs x.outputs)
+  pub ins : x.share.ins ≡ mapped_bits x.kind.hardware (bits_assigned x.kind.inputs x.inputs)
   pub few_outs : x.share.outs ≤ 2048
   pub few_ins : x.share.ins ≤ 2048
   pub fmmus : x.fmmus ≡ fmmus_of x.from x.kind.out_start x.kind.in_start x.share.outs x.share.ins
+  -- what the type says of real devices, with mailboxes where the table has them
+  pub hardware : ForSome x.kind.hardware (IsHardware x.kind.mailbox)
+  -- it is not full then
+  pub faceless : is_some x.kind.hardware ≡ true → x.kind.face ≡ None
 
 abbrev pub SlavesAreOfTheirTypes : Type 0
 SlavesAreOfTheirTypes = (t : Contents) → table.IsSound t → compile_fault t ≡ None → (s : ℕ) → s < length (plan_of t).slaves → IsOfItsType (slave_at (plan_of t) s)
 
+-- The slaves of one plan are all of types for hardware, if its table is, or none is.
+abbrev pub OnePlanOneFormat : Type 0
+OnePlanOneFormat = (t : Contents) → table.IsSound t → compile_fault t ≡ None → (s : ℕ) → s < length (plan_of t).slaves → is_some (slave_at (plan_of t) s).kind.hardware ≡ t.hardware
+
+-- Everything of a slave for hardware is mapped in whole bytes: its area begins at a byte, and so do both directions end at one.
+pub record IsInWholeBytes (x : SlavePlan) : Type 0 where
+  pub from : x.from % 8 ≡ 0
+  pub outs : x.share.outs % 8 ≡ 0
+  pub ins : x.share.ins % 8 ≡ 0
+
+abbrev pub HardwareIsInWholeBytes : Type 0
+HardwareIsInWholeBytes = (t : Contents) → table.IsSound t → compile_fault t ≡ None → t.hardware ≡ true → (s : ℕ) → s < length (plan_of t).slaves → IsInWholeBytes (slave_at (plan_of t) s)
+
 -- the managers of the process data
 abbrev pub output_manager : SlavePlan → SyncManagerSettings
-output_manager x = process_manager x.kind.out_start x.share.outs outputs_control
+output_manager x = process_manager x.kind.out_start x.share.outs (out_manager x.kind.hardware).control
 
 abbrev pub input_manager : SlavePlan → SyncManagerSettings
-input_manager x = process_manager x.kind.in_start x.share.ins inputs_control
+input_manager x = process_manager x.kind.in_start x.share.ins (in_manager x.kind.hardware).control
 
 -- a set manager's span has the byte
 abbrev pub has_byte : SyncManagerSettings → ℕ → Bool
@@ -137,6 +158,9 @@ FitsRam bits start = 0 < bits → (ram_start ≤ start) × (start + 3 * bytes_of
 pub record AreListed (x : SlavePlan) : Type 0 where
   pub managers : x.managers ≡ manager_of x 0 ∷ manager_of x 1 ∷ output_manager x ∷ input_manager x ∷ []
   pub fmmus : x.fmmus ≡ fmmu_of x 0 ∷ fmmu_of x 1 ∷ no_fmmu ∷ no_fmmu ∷ []
+  -- both directions are buffered; the master writes the outputs and reads the inputs
+  pub out_mode : (out_manager x.kind.hardware).control % 16 ≡ 4
+  pub in_mode : (in_manager x.kind.hardware).control % 16 ≡ 0
   pub out_run : RunOf (fmmu_of x 0) (fmmu_of x 0).writes x.from x.share.outs x.kind.out_start
   pub in_run : RunOf (fmmu_of x 1) (fmmu_of x 1).reads x.from x.share.ins x.kind.in_start
   pub out_only : (fmmu_of x 0).reads ≡ false

@@ -2,9 +2,12 @@
 
 ghost use Rattle.ec_link.specs.FaultLaw.{FirstLinkFault};
 ghost use Rattle.ec_link.specs.AdvertisedFull.{AdvertisedFullGivesFaces};
-ghost use Rattle.ec_link.specs.Example.{AcceptedLaw, AcceptedTwoLaw};
+ghost use Rattle.ec_link.specs.Example.{AcceptedLaw, AcceptedPinsLaw, AcceptedTwoLaw};
 ghost use Rattle.ec_link.specs.Interface.{PlansAreSound, PlansAreUsable, PlansHaveTheLinks, VariablesAreApart, VariablesArePlaced};
 ghost use Rattle.ec_link.specs.Interface.{LinkedBitsAreThere, LinkedInputsAreThere, PlansListTheUnits, SlavesAreOfTheirTypes, SettingsAreListed};
+ghost use Rattle.ec_link.specs.Interface.{OnePlanOneFormat, HardwareIsInWholeBytes};
+ghost use Rattle.ec_link.specs.Sizes.{MappedBitsHaveRoom};
+ghost use Rattle.ec_link.specs.SlavePlan.{UsualControls};
 
 /// The fault that `compile` returns is the first that the table has, by the numbers of the kinds and then by the places. If it
 /// returns none, the table has none.
@@ -23,6 +26,12 @@ pub fn advertised_full_gives_faces()
 #[tactic(auto, using(crate::proofs::AcceptedLaw::accepted_law))]
 pub fn a_table_is_accepted()
     ensures { AcceptedLaw }
+{}
+
+/// The compiler accepts a table with a real terminal whose outputs are pins.
+#[tactic(auto, using(crate::proofs::AcceptedLaw::accepted_pins_law))]
+pub fn a_table_with_pins_is_accepted()
+    ensures { AcceptedPinsLaw }
 {}
 
 /// The compiler accepts a table of two sync units too, with a mailbox, a slave without LRW, and links both ways.
@@ -75,6 +84,29 @@ pub fn plans_list_the_units()
 #[tactic(auto, using(crate::proofs::OfTypes::slaves_are_of_their_types))]
 pub fn slaves_are_of_their_types()
     ensures { SlavesAreOfTheirTypes }
+{}
+
+/// The slaves of a plan are all of types for real devices, if its table is for hardware, or none is.
+#[tactic(auto, using(crate::proofs::OfTypes::one_format))]
+pub fn one_plan_has_one_format()
+    ensures { OnePlanOneFormat }
+{}
+
+/// Of hardware everything is mapped in whole bytes.
+pub fn hardware_is_in_whole_bytes()
+    ensures { HardwareIsInWholeBytes }
+{}
+
+/// The bits that are mapped have room for the bits of the entries, and as many bytes.
+#[tactic(auto, using(crate::proofs::MappedBits::room_law))]
+pub fn mapped_bits_have_room()
+    ensures { MappedBitsHaveRoom }
+{}
+
+/// Without hardware the managers of the process data have the usual control bytes.
+#[tactic(auto, using(crate::proofs::MappedBits::usual_controls))]
+pub fn controls_are_usual()
+    ensures { UsualControls }
 {}
 
 /// The settings of a slave of a usable plan are four managers, no two of which share a byte, and an FMMU for each direction.

@@ -24,3 +24,4 @@ pub use crate::layout::{MAX_PART_BYTES, MAX_SPLIT_BYTES};
 pub use crate::machine::{Machine, MachineError};
 pub use crate::plan::{ExpectedCounters, Link, PartPlan, Plan};
 pub use crate::settings::{Share, SlavePlan};
+pub use crate::sizes::EntryBits;

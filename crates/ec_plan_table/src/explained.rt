@@ -1,7 +1,7 @@
 //! A plan for people: where each bit of each object stands, and which variable it is linked with.
 ghost use Rattle.std.specs.Prelude.{◌<◌, length};
 
-use ec_device::Entry;
+use ec_device::{Entry, INPUTS_PLACE, OUTPUTS_PLACE};
 use ec_link::{ExpectedCounters, Link, PartPlan, Plan, SlavePlan};
 use ec_table::{Direction, SlaveRow, Table};
 use std::alloc::{AllocError, Global};
@@ -157,11 +157,22 @@ impl<'a> Explained<'a> {
         entries: &[Entry],
     ) -> Result<(), AllocError> {
         let links = self.image(direction).links_of(self.alloc, slave)?;
+        let kind = &settings.kind;
         let (name, number, manager, assigned) = match direction {
-            Direction::Out => ("outputs", 2, &settings.managers[2], &settings.outputs),
-            Direction::In => ("inputs", 3, &settings.managers[3], &settings.inputs),
+            Direction::Out => (
+                "outputs",
+                kind.out_manager().number,
+                &settings.managers[OUTPUTS_PLACE],
+                &settings.outputs,
+            ),
+            Direction::In => (
+                "inputs",
+                kind.in_manager().number,
+                &settings.managers[INPUTS_PLACE],
+                &settings.inputs,
+            ),
         };
-        let (bytes, start) = (manager.length, manager.start);
+        let (bytes, start) = (manager.length, kind.other_name(manager.start));
         writeln!(
             text,
             "  {name}: sync manager {number}, address 0x{start:04x}, length {bytes}"

@@ -4,5 +4,7 @@ pub mod Flagged
 pub mod Table
 -- areas in the RAM make managers
 pub mod Areas
+-- what registers show of addresses goes back
+pub mod ShownBack
 -- the constants of the code are the numbers of the definitions
 pub mod Constants

@@ -26,6 +26,10 @@ al_status = 0x0130
 abbrev pub al_status_code : ℕ
 al_status_code = 0x0134
 
+-- who has the SII; a simulated slave doesn't have the register
+abbrev pub sii_configuration : ℕ
+sii_configuration = 0x0500
+
 abbrev pub sii_control : ℕ
 sii_control = 0x0502
 

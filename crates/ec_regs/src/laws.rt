@@ -5,6 +5,7 @@ ghost use Rattle.ec_regs.specs.Constants.{ConstantsAreTheRegisters, ConstantsAre
 ghost use Rattle.ec_regs.specs.Managers.{ManagerIsReadBack, UsualAreasAreSet};
 ghost use Rattle.ec_regs.specs.Fmmus.{FmmuIsReadBack};
 ghost use Rattle.ec_regs.specs.Words.{AlIsReadBack, SiiIsReadBack};
+ghost use Rattle.ec_regs.specs.Names.{SettingsGoBack};
 
 /// Which register bytes take writes, as a table.
 #[tactic(auto, using(crate::proofs::Table::access_law))]
@@ -42,6 +43,12 @@ pub fn al_is_read_back()
 /// Command and flags are read back from their word.
 pub fn sii_is_read_back()
     ensures { SiiIsReadBack }
+{}
+
+/// What registers show of settings inside a slave says which they are, whatever address the outputs have there.
+#[tactic(auto, using(crate::proofs::ShownBack::settings_back))]
+pub fn settings_go_back()
+    ensures { SettingsGoBack }
 {}
 
 /// An area in the RAM with a usual control byte makes the manager that the byte is named for.

@@ -5,6 +5,7 @@ mod access;
 mod fmmu;
 pub mod laws;
 mod manager;
+mod names;
 pub mod registers;
 mod words;
 
@@ -14,6 +15,7 @@ pub use crate::manager::{
     CONTROL_INPUTS, CONTROL_MAILBOX_IN, CONTROL_MAILBOX_OUT, CONTROL_OUTPUTS, SyncManagerSettings,
     decode_manager, encode_manager,
 };
+pub use crate::names::{shown_fmmu, shown_manager};
 pub use crate::words::{AlWord, SiiControl};
 /// What a slave of one type is, and the identity of one slave.
 pub use ec_device::{Identity, SlaveType};

@@ -19,6 +19,8 @@ pub const AL_CONTROL: usize = 0x0120;
 pub const AL_STATUS: usize = 0x0130;
 /// The AL status code, two bytes.
 pub const AL_STATUS_CODE: usize = 0x0134;
+/// SII configuration, one byte: who has the SII.
+pub const SII_CONFIGURATION: usize = 0x0500;
 /// SII control and status, two bytes: a `SiiControl`.
 pub const SII_CONTROL: usize = 0x0502;
 /// The SII word address, four bytes.

@@ -1,8 +1,10 @@
 -- What `from_str_radix` returns is the number of hex digits that don't begin with a plus.
-use Rattle.std.proofs.Common.{◌≡◌, ◌≢◌, ◌∙◌, ℕ, ◌<◌, ◌^◌, [], ◌∷◌, Bool, true, false, nat_lt, Some, None, refl, sym, ap, if◌then◌else◌, ◌&&◌, Result, Ok, Err}
+use Rattle.std.proofs.Common.{◌≡◌, ◌≢◌, ◌∙◌, ℕ, ◌<◌, ◌^◌, [], ◌∷◌, Bool, true, false, nat_lt, Some, None, refl, sym, ap, arith, if◌then◌else◌, ◌&&◌, Result, Ok, Err}
 use Rattle.std.specs.Char.{digit_value}
+use Rattle.std.specs.Fmt.{digits}
 use Rattle.std.specs.Result.{OkIff, result_ok}
 use Rattle.std.specs.Str.Parse.{AllDigits, IsNumeral, ParsesUnsigned, digits_value}
+use Rattle.std.proofs.lemmas.Fmt.{digits_is_IsNumeral}
 use Rattle.std.proofs.lemmas.Str.Parse.{without_leading_plus_none}
 use Rattle.ec_script.specs.Words.{Text, all_hex_digits, hex_of, is_hex}
 use Rattle.ec_script.proofs.Numbers.{both, first_of, is_true, is_less, not_plus, parts}
@@ -48,3 +50,21 @@ told word (Err e) h = sym (by_test word false (no_other word (is_hex word) refl 
 
 pub parsed : {E : Type 0} (word : Text) (r : Result ℕ E) → first_of word ≢ 43 → ParsesUnsigned 64 16 word r → result_ok r ≡ hex_of word
 parsed word r h read = told word r (rw (without_leading_plus_none word (not_plus word h)) at read)
+
+-- ---- what is written in hex digits
+
+abbrev pub hex_text : ℕ → Text
+hex_text n = digits 16 false n
+
+written : (n : ℕ) → n < 2 ^ 64 → IsNumeral 16 (hex_text n) × (digits_value 16 (hex_text n) ≡ n)
+written n h = digits_is_IsNumeral 16 false (omega arith) (omega arith) n (omega arith)
+
+pub hex_digits : (n : ℕ) → n < 2 ^ 64 → all_hex_digits (hex_text n) ≡ true
+hex_digits n h = all_from (hex_text n) (written n h).0.1
+
+pub hex_back : (n : ℕ) → n < 2 ^ 64 → hex_of (hex_text n) ≡ Some n
+hex_back n h =
+    let w = written n h in
+    let below : digits_value 16 (hex_text n) < 2 ^ 64 = rw w.1 h in
+    let number : is_hex (hex_text n) ≡ true = both _ _ _ (hex_digits n h) (is_true _ _ w.0.0) (is_true _ _ below) in
+    by_test (hex_text n) true number ∙ ap Some w.1

@@ -11,7 +11,9 @@ pub mod Numbers
 -- what stands before and behind two dots
 pub mod Ranges
 -- what is written for a line is read back
+pub mod WrittenWords
 pub mod ReadingBack
+pub mod PrintedNumbers
 -- the lines of slaves, one after another
 pub mod SlaveLines
 -- the pieces of a script that are done one after another, and those that are read

@@ -1,23 +1,15 @@
 -- What is written for a line is read back.
-use Rattle.std.proofs.Common.{◌≡◌, ◌≢◌, ◌∙◌, ℕ, ◌+◌, ◌-◌, ◌*◌, ◌/◌, ◌%◌, ◌<◌, ◌≤◌, ◌^◌, ◌==◌, ◌&&◌, ◌||◌, List, [], ◌∷◌, ◌++◌, length, take, get_or, Bool, true, false, not, nat_lt, nat_le, position, Option, Some, None, is_some, bit_and, All, AllPairs, slice_get, codes, option_and_then, option_map, if◌then◌else◌, refl, sym, ap, subst, arith}
+use Rattle.std.proofs.Common.{◌≡◌, ◌∙◌, ℕ, ◌+◌, ◌-◌, ◌*◌, ◌/◌, ◌%◌, ◌<◌, ◌≤◌, ◌^◌, ◌==◌, ◌||◌, List, [], ◌∷◌, length, Bool, true, false, nat_lt, Option, Some, None, is_some, bit_and, slice_get, codes, option_and_then, option_map, if◌then◌else◌, refl, sym, ap, arith}
 use Rattle.std.specs.Fmt.{decimal}
-use Rattle.std.specs.List.{list_all, position_or_len}
+use Rattle.std.specs.List.{list_all}
 use Rattle.std.specs.Char.{digit_char, digit_value, is_ascii_digit}
-use Rattle.std.specs.Str.{all_ascii_digits, bytes_eq}
+use Rattle.std.specs.Str.{bytes_eq}
 use Rattle.std.specs.Str.Parse.{digits_value}
-use Rattle.std.proofs.Math.Pow.{pow_mono}
 use Rattle.std.proofs.lemmas.Bool.Decides.{nat_tests}
-use Rattle.std.proofs.lemmas.Fmt.{decimal_nonempty, digits_decimal, digits_value-decimal}
-use Rattle.std.proofs.lemmas.List.Elements.{All-nil, All-cons}
-use Rattle.std.proofs.lemmas.List.Splits.{slice_split_at, slice_split_none}
-use Rattle.std.proofs.lemmas.List.Sums.{position_or_len_is}
-use Rattle.std.proofs.lemmas.Option.{slice_get_within, get_or_from_slice_get, slice_get-get_or}
-use Rattle.std.proofs.lemmas.Slice.Eq.{bytes_eq-Decides}
 use Rattle.std.proofs.lemmas.Str.{digit_value-digit_char}
 use Rattle.ec_al.specs.declared.state.State.{State}
 use Rattle.ec_al.specs.declared.state.State.TheVariants.{Init, PreOp, SafeOp, Op}
 use Rattle.ec_table.specs.Contents.{Contents}
-use Rattle.ec_table.specs.Fields.{is_name_byte}
 use Rattle.ec_table.specs.Sound as table
 use Rattle.ec_table.specs.declared.rows.VariableRow.{VariableRow}
 use Rattle.ec_script.specs.declared.expectation.Expectation.{Expectation}
@@ -39,256 +31,20 @@ use Rattle.ec_script.specs.declared.value.WrittenValue.{WrittenValue}
 use Rattle.ec_script.specs.declared.value.WrittenValue.TheVariants.{Number, Outside}
 use Rattle.ec_script.specs.Actions.{action_of_form, action_of_words, expectation_of_form, input_action, set_action, test_expected, value_expected}
 use Rattle.ec_script.specs.Forms.{form_of}
-use Rattle.ec_script.specs.Operands.{assignment_at, bounds_for, held_for, slave_in, state_named, value_for, variable_named}
+use Rattle.ec_script.specs.Operands.{assignment_at, bounds_for, held_for, mask_for, slave_in, state_named, value_for, variable_named}
 use Rattle.ec_script.specs.Scripts.{done_times, found_line, line_of_words, line_on, reading_of, reading_without, repeated_line}
 use Rattle.ec_script.specs.Tasks.{actions_of, all_or_one, alone, alone_or, denied_words, each_name, each_setting, echoed, is_unsettable, step, steps_if, steps_of, tasks_of, within_if}
 use Rattle.ec_script.specs.Tests.{between_test, compared_test, masked_test}
-use Rattle.ec_script.specs.Words.{Text, bounds_of, byte_of, code_of, hex_of, is_number, is_range, number_of, plain_of, times_of, uncommented, value_of, words_of}
-use Rattle.ec_script.specs.Writing.{IsActionOf, IsCode, IsExpectationOf, IsNumber, IsOtherWord, IsTestOf, LinesReadBack, below_all, code_word, code_words, joined_words, masked_word, number_words, range_word, row_bits, row_name, sign_word, state_name, taken_word, test_words, words_expecting, words_for, words_for_step}
-use Rattle.ec_script.proofs.Numbers.{by_test, both, digits, is_true}
-use Rattle.ec_script.proofs.Ranges.{is_undotted, no_range, range_is}
-use Rattle.ec_script.proofs.Values.{often}
-use Rattle.ec_script.proofs.Verbs.{differ, false_from}
-
--- ---- numbers
-
-is_number_of : (n : ℕ) → n < 2 ^ 64 → is_number (decimal n) ≡ true
-is_number_of n h =
-    let value : digits_value 10 (decimal n) ≡ n = digits_value-decimal digits n h in
-    let below : digits_value 10 (decimal n) < 2 ^ 64 = rw value h in
-    both _ _ _ (digits_decimal digits n h) (is_true _ _ (decimal_nonempty n h)) (is_true _ _ below)
-
-number_back : (n : ℕ) → n < 2 ^ 64 → number_of (decimal n) ≡ Some n
-number_back n h = by_test (decimal n) true (is_number_of n h) ∙ ap Some (digits_value-decimal digits n h)
-
-small : (x : ℕ) → x < 256 → x < 2 ^ 64
-small x h = omega arith
-
-byte_back : (x : ℕ) → x < 256 → byte_of (decimal x) ≡ Some x
-unfolding byte_of
-byte_back x h = let t : nat_lt x 256 ≡ true = is_true x 256 h in rw (number_back x (small x h), t) refl
-
-times_back : (n : ℕ) → 1 ≤ n → n ≤ 1000000 → times_of (decimal n) ≡ Some n
-unfolding times_of
-times_back n some most = let low : n < 2 ^ 64 = omega arith in rw (number_back n low, often n some most) refl
-
--- ---- bytes of words
-
-abbrev IsBlank : ℕ → Bool
-IsBlank b = b == 32
-
-abbrev IsMark : ℕ → Bool
-IsMark b = b == 35
-
--- neither a blank nor the mark of a comment
-abbrev is_plain : ℕ → Bool
-is_plain b = not (IsBlank b) && not (IsMark b)
-
-abbrev is_word : Text → Bool
-is_word word = list_all is_plain word
-
-abbrev are_words : List Text → Bool
-are_words [] = true
-are_words (word ∷ words) = is_word word && are_words words
-
-and : (a b : Bool) → a ≡ true → b ≡ true → a && b ≡ true
-and true true g h = refl
-and true false g h = cc
-and false b g h = cc
-
-both_of : (a b : Bool) → (a && b) ≡ true → (a ≡ true) × (b ≡ true)
-both_of true true h = (refl, refl)
-both_of true false h = cc
-both_of false b h = cc
-
-not_true : (b : Bool) → not b ≡ true → b ≡ false
-not_true true h = cc
-not_true false h = refl
-
-not_false : (b : Bool) → b ≡ false → not b ≡ true
-not_false true h = cc
-not_false false h = refl
-
--- a test that this byte fails
-other_byte : (test : ℕ → Bool) (c : ℕ) → test c ≡ false → (b : ℕ) → test b ≡ true → (b == c) ≡ false
-other_byte test c fails b h = false_from (b == c) (λ e.
-    let is : b ≡ c = grind (arith, nat_tests) in
-    let bad : true ≡ false = sym h ∙ (ap test is ∙ fails) in
-    cc)
-
-plain_by : (test : ℕ → Bool) → test 32 ≡ false → test 35 ≡ false → (word : Text) → list_all test word ≡ true → is_word word ≡ true
-plain_by test blank mark [] h = refl
-plain_by test blank mark (b ∷ bs) h =
-    let p = both_of (test b) (list_all test bs) h in
-    and (is_plain b) (is_word bs)
-    (and (not (IsBlank b)) (not (IsMark b)) (not_false _ (other_byte test 32 blank b p.0)) (not_false _ (other_byte test 35 mark b p.0)))
-    (plain_by test blank mark bs p.1)
-
-all_digits : (word : Text) → all_ascii_digits word ≡ true → list_all is_ascii_digit word ≡ true
-all_digits [] h = refl
-all_digits (b ∷ bs) h = let p = both_of (is_ascii_digit b) (all_ascii_digits bs) h in and _ _ p.0 (all_digits bs p.1)
-
-number_digits : (n : ℕ) → n < 2 ^ 64 → list_all is_ascii_digit (decimal n) ≡ true
-number_digits n h = all_digits (decimal n) (digits_decimal digits n h)
-
-number_word : (n : ℕ) → n < 2 ^ 64 → is_word (decimal n) ≡ true
-number_word n h = plain_by is_ascii_digit refl refl (decimal n) (number_digits n h)
-
--- ---- words between blanks
-
-no_blanks : (word : Text) → is_word word ≡ true → All (λ b. IsBlank b ≡ false) word
-no_blanks [] h = All-nil (λ b. IsBlank b ≡ false)
-no_blanks (b ∷ bs) h =
-    let p = both_of (is_plain b) (is_word bs) h in
-    let q = both_of (not (IsBlank b)) (not (IsMark b)) p.0 in
-    All-cons (λ b. IsBlank b ≡ false) b bs (not_true _ q.0) (no_blanks bs p.1)
-
-split_back : (word : Text) (words : List Text) → are_words (word ∷ words) ≡ true → words_of (joined_words (word ∷ words)) ≡ word ∷ words
-split_back word [] h = slice_split_none IsBlank word (no_blanks word (both_of _ _ h).0)
-split_back word (next ∷ words) h =
-    let p = both_of (is_word word) (are_words (next ∷ words)) h in
-    slice_split_at IsBlank word 32 (joined_words (next ∷ words)) (no_blanks word p.0) refl ∙ ap (λ ws. word ∷ ws) (split_back next words p.1)
-
--- ---- no comment
-
-no_marks : (word : Text) → is_word word ≡ true → list_all (λ b. not (IsMark b)) word ≡ true
-no_marks [] h = refl
-no_marks (b ∷ bs) h =
-    let p = both_of (is_plain b) (is_word bs) h in
-    let q = both_of (not (IsBlank b)) (not (IsMark b)) p.0 in
-    and _ _ q.1 (no_marks bs p.1)
-
-all_joined : (test : ℕ → Bool) (xs ys : Text) → list_all test xs ≡ true → list_all test ys ≡ true → list_all test (xs ++ ys) ≡ true
-all_joined test [] ys h g = g
-all_joined test (x ∷ xs) ys h g = let p = both_of (test x) (list_all test xs) h in and _ _ p.0 (all_joined test xs ys p.1 g)
-
-none_marked : (words : List Text) → are_words words ≡ true → list_all (λ b. not (IsMark b)) (joined_words words) ≡ true
-none_marked [] h = refl
-none_marked (word ∷ []) h = no_marks word (both_of _ _ h).0
-none_marked (word ∷ next ∷ words) h =
-    let p = both_of (is_word word) (are_words (next ∷ words)) h in
-    all_joined (λ b. not (IsMark b)) word (32 ∷ joined_words (next ∷ words)) (no_marks word p.0) (and _ _ refl (none_marked (next ∷ words) p.1))
-
-no_place : (line : Text) → list_all (λ b. not (IsMark b)) line ≡ true → position_or_len IsMark line ≡ length line
-no_place [] h = refl
-no_place (b ∷ bs) h =
-    let p = both_of (not (IsMark b)) (list_all (λ b. not (IsMark b)) bs) h in
-    rw p.0 (let e : position_or_len IsMark bs ≡ length bs = no_place bs p.1 in omega arith)
-
-whole : (line : Text) → list_all (λ b. not (IsMark b)) line ≡ true → uncommented line ≡ line
-whole line h =
-    let same : position_or_len IsMark line ≡ length line = no_place line h in
-    let past : nat_lt (position_or_len IsMark line) (length line) ≡ false = grind (arith, nat_tests) in
-    rw past refl
-
--- ---- names
-
-there_is : {X : Type 0} (xs : List X) (k : ℕ) → k < length xs → (x : X) × (slice_get xs k ≡ Some x)
-there_is [] k h = absurd (omega arith)
-there_is (x ∷ xs) k h = (get_or (x ∷ xs) k x, slice_get-get_or (x ∷ xs) k x h)
-
-position_is : {X : Type 0} (test : X → Bool) (xs : List X) (k : ℕ) (x : X) → slice_get xs k ≡ Some x → test x ≡ true → ((j : ℕ) → j < k → test (get_or xs j x) ≡ false) → position test xs ≡ Some k
-position_is test xs k x is pass before =
-    let within : k < length xs = slice_get_within xs k x is in
-    let here : get_or xs k x ≡ x = get_or_from_slice_get xs k x x is in
-    let at : position_or_len test xs ≡ k = position_or_len_is test xs k x (omega arith) before (λ h. rw here pass) in
-    rw (at, is_true k (length xs) within) refl
-
-named : (rows : List VariableRow) (k : ℕ) (row : VariableRow) → AllPairs (λ (w x : VariableRow). w.name ≢ x.name) rows → slice_get rows k ≡ Some row → variable_named rows row.name ≡ Some k
-named rows k row once is =
-    let within : k < length rows = slice_get_within rows k row is in
-    let here : get_or rows k row ≡ row = get_or_from_slice_get rows k row row is in
-    position_is (λ (y : VariableRow). bytes_eq y.name row.name) rows k row is ((bytes_eq-Decides row.name row.name).1 refl)
-    (λ j lt. differ (get_or rows j row).name row.name (λ same. once j k row lt within (same ∙ ap (λ (w : VariableRow). w.name) (sym here))))
-
-sound_row : (rows : List VariableRow) (k : ℕ) (row : VariableRow) → All table.IsVariable rows → slice_get rows k ≡ Some row → table.IsVariable row
-sound_row rows k row each is =
-    let within : k < length rows = slice_get_within rows k row is in
-    let here : get_or rows k row ≡ row = get_or_from_slice_get rows k row row is in
-    subst table.IsVariable here (each k row within)
-
-name_word : (row : VariableRow) → table.IsVariable row → is_word row.name ≡ true
-name_word row sound =
-    let all = both_of (nat_le 1 (length row.name) && nat_le (length row.name) 32) (list_all is_name_byte row.name) sound.name in
-    plain_by is_name_byte refl refl row.name all.1
-
--- a variable of the table, and what is known of its row
-record Row (t : Contents) (v : ℕ) : Type 0 where
-  row : VariableRow
-  at : slice_get t.variables v ≡ Some row
-  plain : is_word (row_name (slice_get t.variables v)) ≡ true
-  named : variable_named t.variables (row_name (slice_get t.variables v)) ≡ Some v
-  some : 1 ≤ row.bits
-  few : row.bits ≤ 64
-  bits : row_bits (slice_get t.variables v) ≡ row.bits
-
-row_from : (t : Contents) (v : ℕ) → table.IsSound t → (r : (row : VariableRow) × (slice_get t.variables v ≡ Some row)) → Row t v
-row_from t v sound (row, at) =
-    let is = sound_row t.variables v row sound.variables.each at in
-    record {
-      row = row;
-      at = at;
-      plain = rw at (name_word row is);
-      named = rw at (named t.variables v row sound.variables.once at);
-      some = is.least;
-      few = is.most;
-      bits = ap row_bits at;
-    }
-
-row_at : (t : Contents) (v : ℕ) → table.IsSound t → v < length t.variables → Row t v
-row_at t v sound h = row_from t v sound (there_is t.variables v h)
-
--- ---- values
-
-first_digit : (c : ℕ) (cs : Text) → list_all is_ascii_digit (c ∷ cs) ≡ true → (c == 45) ≡ false
-first_digit c cs h = other_byte is_ascii_digit 45 refl c (both_of _ _ h).0
-
-no_sign : (word : Text) → list_all is_ascii_digit word ≡ true → (get_or word 0 0 == 45) ≡ false
-no_sign [] h = refl
-no_sign (c ∷ cs) h = first_digit c cs h
-
-abbrev take_two : Text → Text
-take_two word = take 2 word
-
-abbrev second : Text → ℕ
-second [] = 0
-second (a ∷ []) = 0
-second (a ∷ b ∷ cs) = b
-
--- digits alone have no x among them
-no_prefix : (word : Text) → list_all is_ascii_digit word ≡ true → bytes_eq (take_two word) (codes "0x") ≡ false
-no_prefix [] h = refl
-no_prefix (a ∷ []) h = differ (a ∷ []) (codes "0x") (λ e. let bad : length (a ∷ []) ≡ length (codes "0x") = ap length e in omega arith)
-no_prefix (a ∷ b ∷ cs) h =
-    let p = both_of (is_ascii_digit b) (list_all is_ascii_digit cs) (both_of (is_ascii_digit a) (list_all is_ascii_digit (b ∷ cs)) h).1 in
-    differ (a ∷ b ∷ []) (codes "0x") (λ e.
-    let x : b ≡ 120 = ap second e in
-    let bad : true ≡ false = sym p.0 ∙ ap is_ascii_digit x in
-    cc)
-
-value_back : (bits x : ℕ) → x < 2 ^ 64 → value_of bits (decimal x) ≡ Some (Number x)
-unfolding value_of plain_of
-value_back bits x h = let d = number_digits x h in rw (no_sign (decimal x) d, no_prefix (decimal x) d, number_back x h) refl
-
-few_less : (bits : ℕ) → bits ≤ 64 → bits - 1 ≤ 63
-few_less bits few = omega arith
-
-below_back : (bits : ℕ) → bits ≤ 64 → value_of bits below_all ≡ Some Outside
-unfolding value_of number_of
-below_back bits few =
-    let most : 2 ^ (bits - 1) ≤ 2 ^ 63 = pow_mono (few_less bits few) in
-    let no : nat_le 9223372036854775809 (2 ^ (bits - 1)) ≡ false = grind (arith, nat_tests) in
-    rw no refl
-
-value_for_back : (t : Contents) (v x : ℕ) → Row t v → x < 2 ^ 64 → value_for t.variables v (decimal x) ≡ Some (Number x)
-value_for_back t v x r h = rw r.at (value_back r.row.bits x h)
-
-below_for_back : (t : Contents) (v : ℕ) → Row t v → value_for t.variables v below_all ≡ Some Outside
-below_for_back t v r = rw r.at (below_back r.row.bits r.few)
+use Rattle.ec_script.specs.Words.{Text, bounds_of, byte_of, code_of, hex_of, is_range, number_of, uncommented}
+use Rattle.ec_script.specs.Writing.{IsActionOf, IsCode, IsExpectationOf, IsNumber, IsOtherWord, IsTestOf, LinesReadBack, below_all, code_word, code_words, joined_words, masked_word, number_words, range_word, row_bits, row_name, sign_word, state_name, taken_word, test_words, words_expecting, words_for, words_for_step, value_word}
+use Rattle.ec_script.proofs.Numbers.{is_true}
+use Rattle.ec_script.proofs.Ranges.{range_is}
+use Rattle.ec_script.proofs.Verbs.{differ}
+use Rattle.ec_script.proofs.WrittenWords.{all_joined, and, are_words, below_for_back, byte_back, has_sign, held_back, is_plain, is_word, mask_back, no_bounds, no_sign_word, none_marked, number_back, number_digits, number_word, plain_by_digit, Row, row_at, small, split_back, times_back, value_for_back, value_plain, value_undotted, whole, word_holds}
 
 -- ---- what can be read back
 
-record IsBack (t : Contents) (action : LineAction) (words : List Text) : Type 0 where
+pub record IsBack (t : Contents) (action : LineAction) (words : List Text) : Type 0 where
   verb : Text
   rest : List Text
   are : words ≡ verb ∷ rest
@@ -375,14 +131,15 @@ assigning t f verb v word value action some other plain r word_plain is fits e =
     back t f (action (v, value)) verb _ some other plain (two_words (name_of t v) word r.plain word_plain) fits
     (e ∙ ap (option_and_then (λ a. Some (action a))) (assigned t verb v word value r is))
 
-set_back : (t : Contents) (v : ℕ) (word : Text) (value : WrittenValue) → Row t v → is_word word ≡ true → value_for t.variables v word ≡ Some value
+pub set_back : (t : Contents) (v : ℕ) (word : Text) (value : WrittenValue) → Row t v → is_word word ≡ true → value_for t.variables v word ≡ Some value
     → IsBack t (set_action (v, value)) (codes "set" ∷ name_of t v ∷ word ∷ [])
 unfolding form_of
 set_back t v word value r plain is = assigning t form.Set (codes "set") v word value set_action refl refl refl r plain is refl refl
 
-input_back : (t : Contents) (v x : ℕ) → Row t v → x < 2 ^ 64 → IsBack t (Input v x) (codes "in" ∷ name_of t v ∷ decimal x ∷ [])
+pub input_back : (t : Contents) (v : ℕ) (word : Text) (value : WrittenValue) → Row t v → is_word word ≡ true → value_for t.variables v word ≡ Some value
+    → IsBack t (input_action (v, value)) (codes "in" ∷ name_of t v ∷ word ∷ [])
 unfolding form_of
-input_back t v x r h = assigning t form.Input (codes "in") v (decimal x) (Number x) input_action refl refl refl r (number_word x h) (value_for_back t v x r h) refl refl
+input_back t v word value r plain is = assigning t form.Input (codes "in") v word value input_action refl refl refl r plain is refl refl
 
 output_back : (t : Contents) (v : ℕ) → Row t v → IsBack t (Output v) (codes "out" ∷ name_of t v ∷ [])
 unfolding form_of
@@ -403,43 +160,13 @@ value_form : (name word : Text) → IsOtherWord name → is_range word ≡ false
 unfolding form_of
 value_form name word free one = rw (differ _ _ free.1, differ _ _ free.2, differ _ _ free.3, one) refl
 
-value_of_name : (t : Contents) (v : ℕ) (word : Text) (value : WrittenValue) → Row t v → IsOtherWord (name_of t v) → is_word word ≡ true → is_range word ≡ false
+pub value_of_name : (t : Contents) (v : ℕ) (word : Text) (value : WrittenValue) → Row t v → IsOtherWord (name_of t v) → is_word word ≡ true → is_range word ≡ false
     → value_for t.variables v word ≡ Some value → IsBack t (Expect (value_expected (v, value))) (codes "expect" ∷ name_of t v ∷ word ∷ [])
 value_of_name t v word value r free plain one is =
     expect_back t expected.Value (value_expected (v, value)) _ (two_words (name_of t v) word r.plain plain) (value_form (name_of t v) word free one)
     (ap (option_and_then (λ a. Some (value_expected a))) (assigned t (codes "expect") v word value r is))
 
 -- ---- what is tested
-
--- digits alone have no dot among them, and are no sign
-undotted : (word : Text) → list_all is_ascii_digit word ≡ true → is_undotted word ≡ true
-undotted [] h = refl
-undotted (b ∷ bs) h =
-    let p = both_of (is_ascii_digit b) (list_all is_ascii_digit bs) h in
-    and _ _ (not_false _ (other_byte is_ascii_digit 46 refl b p.0)) (undotted bs p.1)
-
-no_bounds : (n : ℕ) → n < 2 ^ 64 → is_range (decimal n) ≡ false
-no_bounds n h = ap (λ o. is_some o) (no_range (decimal n) (undotted (decimal n) (number_digits n h)))
-
-no_sign_word : (word sign : Text) → list_all is_ascii_digit word ≡ true → list_all is_ascii_digit sign ≡ false → bytes_eq word sign ≡ false
-no_sign_word word sign h g = differ word sign (λ e.
-    let bad : true ≡ false = sym h ∙ (ap (list_all is_ascii_digit) e ∙ g) in
-    cc)
-
--- a number that the variable's bits hold
-below_64 : (n bits : ℕ) → n < 2 ^ bits → bits ≤ 64 → n < 2 ^ 64
-below_64 n bits h few = let most : 2 ^ bits ≤ 2 ^ 64 = pow_mono few in omega (arith, h, most)
-
-bits_hold : (t : Contents) (v n : ℕ) (r : Row t v) → n < 2 ^ row_bits (slice_get t.variables v) → n < 2 ^ r.row.bits
-bits_hold t v n r h = subst (λ (bits : ℕ). n < 2 ^ bits) r.bits h
-
-word_holds : (t : Contents) (v n : ℕ) (r : Row t v) → n < 2 ^ row_bits (slice_get t.variables v) → n < 2 ^ 64
-word_holds t v n r h = below_64 n r.row.bits (bits_hold t v n r h) r.few
-
-held_back : (t : Contents) (v n : ℕ) → Row t v → n < 2 ^ row_bits (slice_get t.variables v) → held_for t.variables v (decimal n) ≡ Some (Some n)
-held_back t v n r h =
-    let less : nat_lt n (2 ^ r.row.bits) ≡ true = is_true n (2 ^ r.row.bits) (bits_hold t v n r h) in
-    rw (r.at, value_back r.row.bits n (word_holds t v n r h), less) refl
 
 -- a variable, and a number for it
 abbrev numbered : ℕ → Option (Option ℕ) → Option (ℕ × Option ℕ)
@@ -452,6 +179,13 @@ with_held t word v = numbered v (held_for t.variables v word)
 held_pair : (t : Contents) (v : ℕ) (word : Text) (n : Option ℕ) → Row t v → held_for t.variables v word ≡ Some n
     → option_and_then (with_held t word) (variable_named t.variables (name_of t v)) ≡ Some (v, n)
 held_pair t v word n r is = ap (option_and_then (with_held t word)) r.named ∙ ap (numbered v) is
+
+abbrev with_mask : Contents → Text → ℕ → Option (ℕ × Option ℕ)
+with_mask t word v = numbered v (mask_for t.variables v word)
+
+mask_pair : (t : Contents) (v : ℕ) (word : Text) (n : Option ℕ) → Row t v → mask_for t.variables v word ≡ Some n
+    → option_and_then (with_mask t word) (variable_named t.variables (name_of t v)) ≡ Some (v, n)
+mask_pair t v word n r is = ap (option_and_then (with_mask t word)) r.named ∙ ap (numbered v) is
 
 compared_form : (name word : Text) (c : Comparison) → form_of (codes "expect" ∷ name ∷ sign_word c ∷ word ∷ []) ≡ Some (form.Expect (expected.Compared c))
 unfolding form_of
@@ -471,11 +205,12 @@ sign_plain Greater = refl
 sign_plain GreaterEqual = refl
 
 compared_back : (t : Contents) (v : ℕ) (c : Comparison) (n : ℕ) → Row t v → n < 2 ^ row_bits (slice_get t.variables v)
-    → IsBack t (Expect (expects.Holds v (Compared c n))) (codes "expect" ∷ name_of t v ∷ sign_word c ∷ decimal n ∷ [])
+    → IsBack t (Expect (expects.Holds v (Compared c n))) (codes "expect" ∷ name_of t v ∷ sign_word c ∷ value_word (has_sign t v) n ∷ [])
 compared_back t v c n r h =
+    let word = value_word (has_sign t v) n in
     expect_back t (expected.Compared c) (expects.Holds v (Compared c n)) _
-    (and _ _ r.plain (two_words (sign_word c) (decimal n) (sign_plain c) (number_word n (word_holds t v n r h)))) (compared_form (name_of t v) (decimal n) c)
-    (ap (option_and_then (λ (a : ℕ × Option ℕ). Some (test_expected a.0 (compared_test c a.1)))) (held_pair t v (decimal n) (Some n) r (held_back t v n r h)))
+    (and _ _ r.plain (two_words (sign_word c) word (sign_plain c) (value_plain (has_sign t v) n (word_holds t v n r h)))) (compared_form (name_of t v) word c)
+    (ap (option_and_then (λ (a : ℕ × Option ℕ). Some (test_expected a.0 (compared_test c a.1)))) (held_pair t v word (Some n) r (held_back t v n r h)))
 
 masked_form : (name mask word : Text) (is : Bool) → form_of (codes "expect" ∷ name ∷ codes "&" ∷ mask ∷ masked_word is ∷ word ∷ []) ≡ Some (form.Expect (expected.Masked is))
 unfolding form_of
@@ -496,19 +231,20 @@ masked_back t v mask is n r h g inside =
     (and _ _ r.plain (and _ _ refl (and _ _ (number_word mask (word_holds t v mask r h)) (two_words (masked_word is) (decimal n) (masked_plain is) (number_word n (word_holds t v n r g))))))
     (masked_form (name_of t v) (decimal mask) (decimal n) is)
     (ap (option_and_then (λ (m : ℕ × Option ℕ). option_and_then (λ (a : ℕ × Option ℕ). Some (test_expected m.0 (masked_test is m.1 a.1)))
-    (option_and_then (with_held t (decimal n)) (variable_named t.variables (name_of t v))))) (held_pair t v (decimal mask) (Some mask) r (held_back t v mask r h))
-    ∙ (ap (option_and_then (λ (a : ℕ × Option ℕ). Some (test_expected v (masked_test is (Some mask) a.1)))) (held_pair t v (decimal n) (Some n) r (held_back t v n r g))
+    (option_and_then (with_mask t (decimal n)) (variable_named t.variables (name_of t v))))) (mask_pair t v (decimal mask) (Some mask) r (mask_back t v mask r h))
+    ∙ (ap (option_and_then (λ (a : ℕ × Option ℕ). Some (test_expected v (masked_test is (Some mask) a.1)))) (mask_pair t v (decimal n) (Some n) r (mask_back t v n r g))
     ∙ ap (λ o. Some (test_expected v o)) (within_mask is mask n inside)))
 
 range_form : (name word : Text) → IsOtherWord name → is_range word ≡ true → form_of (codes "expect" ∷ name ∷ word ∷ []) ≡ Some (form.Expect expected.Range)
 unfolding form_of
 range_form name word free two = rw (differ _ _ free.1, differ _ _ free.2, differ _ _ free.3, two) refl
 
-range_plain : (low high : ℕ) → low < 2 ^ 64 → high < 2 ^ 64 → is_word (range_word low high) ≡ true
-range_plain low high h g = all_joined is_plain (decimal low) (46 ∷ 46 ∷ decimal high) (number_word low h) (and _ _ refl (and _ _ refl (number_word high g)))
+range_plain : (signed : Bool) (low high : ℕ) → low < 2 ^ 64 → high < 2 ^ 64 → is_word (range_word signed low high) ≡ true
+range_plain signed low high h g =
+    all_joined is_plain (value_word signed low) (46 ∷ 46 ∷ value_word signed high) (value_plain signed low h) (and _ _ refl (and _ _ refl (value_plain signed high g)))
 
-range_bounds : (low high : ℕ) → low < 2 ^ 64 → bounds_of (range_word low high) ≡ Some (decimal low, decimal high)
-range_bounds low high h = range_is (decimal low) (decimal high) (undotted (decimal low) (number_digits low h))
+range_bounds : (signed : Bool) (low high : ℕ) → low < 2 ^ 64 → bounds_of (range_word signed low high) ≡ Some (value_word signed low, value_word signed high)
+range_bounds signed low high h = range_is (value_word signed low) (value_word signed high) (value_undotted signed low h)
 
 abbrev Bounds : Type 0
 Bounds = Option ℕ × Option ℕ
@@ -526,23 +262,23 @@ abbrev with_bounds : Contents → Text → ℕ → Option (ℕ × Bounds)
 with_bounds t word v = with_words t v (bounds_of word)
 
 bounds_back : (t : Contents) (v low high : ℕ) → Row t v → low < 2 ^ row_bits (slice_get t.variables v) → high < 2 ^ row_bits (slice_get t.variables v)
-    → bounds_for t.variables v (decimal low, decimal high) ≡ Some (Some low, Some high)
+    → bounds_for t.variables v (value_word (has_sign t v) low, value_word (has_sign t v) high) ≡ Some (Some low, Some high)
 bounds_back t v low high r h g =
-    ap (option_and_then (λ m. both_held m (held_for t.variables v (decimal high)))) (held_back t v low r h) ∙ ap (both_held (Some low)) (held_back t v high r g)
+    ap (option_and_then (λ m. both_held m (held_for t.variables v (value_word (has_sign t v) high)))) (held_back t v low r h) ∙ ap (both_held (Some low)) (held_back t v high r g)
 
 range_back : (t : Contents) (v low high : ℕ) → Row t v → IsOtherWord (name_of t v) → low < 2 ^ row_bits (slice_get t.variables v) → high < 2 ^ row_bits (slice_get t.variables v)
-    → IsBack t (Expect (expects.Holds v (Between low high))) (codes "expect" ∷ name_of t v ∷ range_word low high ∷ [])
+    → IsBack t (Expect (expects.Holds v (Between low high))) (codes "expect" ∷ name_of t v ∷ range_word (has_sign t v) low high ∷ [])
 range_back t v low high r free h g =
-    let word = range_word low high in
-    let bounds = range_bounds low high (word_holds t v low r h) in
+    let word = range_word (has_sign t v) low high in
+    let bounds = range_bounds (has_sign t v) low high (word_holds t v low r h) in
     expect_back t expected.Range (expects.Holds v (Between low high)) _
-    (two_words (name_of t v) word r.plain (range_plain low high (word_holds t v low r h) (word_holds t v high r g)))
+    (two_words (name_of t v) word r.plain (range_plain (has_sign t v) low high (word_holds t v low r h) (word_holds t v high r g)))
     (range_form (name_of t v) word free (ap (λ o. is_some o) bounds))
     (ap (option_and_then (λ (b : ℕ × Bounds). Some (test_expected b.0 (between_test b.1.0 b.1.1))))
     (ap (option_and_then (with_bounds t word)) r.named ∙ (ap (with_words t v) bounds ∙ ap (bounded v) (bounds_back t v low high r h g))))
 
 test_back : (t : Contents) (v : ℕ) (test : ValueTest) → Row t v → IsTestOf (name_of t v) (row_bits (slice_get t.variables v)) test
-    → IsBack t (Expect (expects.Holds v test)) (codes "expect" ∷ name_of t v ∷ test_words test)
+    → IsBack t (Expect (expects.Holds v test)) (codes "expect" ∷ name_of t v ∷ test_words (has_sign t v) test)
 test_back t v (Compared c n) r h = compared_back t v c n r h.1
 test_back t v (Masked mask is n) r h = masked_back t v mask is n r h.1 h.2 h.3
 test_back t v (Between low high) r h = range_back t v low high r h.0 h.1 h.2
@@ -586,11 +322,6 @@ state_plain Op = refl
 -- a hex digit
 digit_is : (d : ℕ) → d < 16 → nat_lt (digit_value (digit_char d)) 16 ≡ true
 digit_is d h = rw (digit_value-digit_char d (omega arith)) (is_true d 16 h)
-
-plain_by_digit : (c : ℕ) → nat_lt (digit_value c) 16 ≡ true → is_plain c ≡ true
-plain_by_digit c h =
-    and (not (IsBlank c)) (not (IsMark c))
-    (not_false _ (other_byte (λ b. nat_lt (digit_value b) 16) 32 refl c h)) (not_false _ (other_byte (λ b. nat_lt (digit_value b) 16) 35 refl c h))
 
 digit_plain : (d : ℕ) → d < 16 → is_plain (digit_char d) ≡ true
 digit_plain d h = plain_by_digit (digit_char d) (digit_is d h)
@@ -651,7 +382,7 @@ in_state t s state (Some code) h g =
 
 expectation_back : (t : Contents) (e : Expectation) → table.IsSound t → IsExpectationOf t.variables e → IsBack t (Expect e) (codes "expect" ∷ words_expecting t.variables e)
 expectation_back t (expects.Is v x) sound h =
-    let r = row_at t v sound h.0.0 in value_of_name t v (decimal x) (Number x) r h.0.1 (number_word x h.1) (no_bounds x h.1) (value_for_back t v x r h.1)
+    let r = row_at t v sound h.0.0 in let signed = has_sign t v in value_of_name t v (value_word signed x) (Number x) r h.0.1 (value_plain signed x h.1) (no_bounds signed x h.1) (value_for_back t v x r h.1)
 expectation_back t (expects.Holds v test) sound h = test_back t v test (row_at t v sound h.0) h.1
 expectation_back t (expects.Never v) sound h =
     let r = row_at t v sound h.0 in value_of_name t v below_all Outside r h.1 refl refl (below_for_back t v r)
@@ -664,7 +395,7 @@ expectation_back t (expects.Failed number) sound h = failed_back t number h
 -- ---- actions
 
 -- words that stand for an action alone
-record IsActionBack (t : Contents) (action : LineAction) (words : List Text) : Type 0 where
+pub record IsActionBack (t : Contents) (action : LineAction) (words : List Text) : Type 0 where
   verb : Text
   rest : List Text
   are : words ≡ verb ∷ rest
@@ -692,7 +423,7 @@ one_form : (t : Contents) (verb : Text) (rest : List Text) → bytes_eq verb (co
 one_form t verb [] a b c d = rw d refl
 one_form t verb (word ∷ words) a b c d = rw (a, b, c, d) refl
 
-usual : (t : Contents) (verb : Text) (rest : List Text) (action : LineAction) → IsBack t action (verb ∷ rest) → nat_lt 0 (length verb) ≡ true → bytes_eq verb (codes "repeat") ≡ false
+pub usual : (t : Contents) (verb : Text) (rest : List Text) (action : LineAction) → IsBack t action (verb ∷ rest) → nat_lt 0 (length verb) ≡ true → bytes_eq verb (codes "repeat") ≡ false
     → bytes_eq verb (codes "echo") ≡ false → denied_words (verb ∷ rest) ≡ None → bytes_eq verb (codes "set") ≡ false → bytes_eq verb (codes "show") ≡ false
     → bytes_eq verb (codes "out") ≡ false → bytes_eq verb (codes "within") ≡ false → IsActionBack t action (verb ∷ rest)
 usual t verb rest action back some other silent wanted a b c d =
@@ -702,7 +433,7 @@ alone_either : (a : LineAction) (b : Bool) → alone_or (a ∷ []) (if b then So
 alone_either a true = refl
 alone_either a false = refl
 
-set_acts : (t : Contents) (action : LineAction) (name word : Text) → IsBack t action (codes "set" ∷ name ∷ word ∷ []) → IsActionBack t action (codes "set" ∷ name ∷ word ∷ [])
+pub set_acts : (t : Contents) (action : LineAction) (name word : Text) → IsBack t action (codes "set" ∷ name ∷ word ∷ []) → IsActionBack t action (codes "set" ∷ name ∷ word ∷ [])
 unfolding each_setting
 set_acts t action name word b =
     acts t (codes "set") _ action refl refl refl refl (words_plain t action _ b)
@@ -746,7 +477,7 @@ within_acts t n e some most b =
 action_back : (t : Contents) (action : LineAction) → table.IsSound t → IsActionOf t.variables action → IsActionBack t action (words_for t.variables action)
 unfolding form_of
 action_back t Start sound h = usual t (codes "start") _ _ (back t form.Start _ (codes "start") [] refl refl refl refl refl refl) refl refl refl refl refl refl refl refl
-action_back t (Set v x) sound h = let r = row_at t v sound h.0 in set_acts t _ _ _ (set_back t v (decimal x) (Number x) r (number_word x h.1) (value_for_back t v x r h.1))
+action_back t (Set v x) sound h = let r = row_at t v sound h.0 in set_acts t _ _ _ (set_back t v (value_word (has_sign t v) x) (Number x) r (value_plain (has_sign t v) x h.1) (value_for_back t v x r h.1))
 action_back t Begin sound h = usual t (codes "begin") _ _ (back t form.Begin _ (codes "begin") [] refl refl refl refl refl refl) refl refl refl refl refl refl refl refl
 action_back t (Pass k) sound h = usual t (codes "pass") _ _ (place_back t form.Pass (codes "pass") k (λ k. Pass k) refl refl refl h refl refl) refl refl refl refl refl refl refl refl
 action_back t (Lose k) sound h = usual t (codes "lose") _ _ (place_back t form.Lose (codes "lose") k (λ k. Lose k) refl refl refl h refl refl) refl refl refl refl refl refl refl refl
@@ -760,7 +491,10 @@ action_back t (Put s i x) sound h = usual t (codes "put") _ _ (put_back t s i x 
 action_back t (Get s i) sound h = usual t (codes "get") _ _ (get_back t s i h.0 h.1) refl refl refl refl refl refl refl refl
 action_back t (Fail s) sound h = usual t (codes "fault") _ _ (by_slave t form.Fail (codes "fault") s (λ s. Fail s) refl refl refl h refl refl) refl refl refl refl refl refl refl refl
 action_back t (Reset s) sound h = usual t (codes "reset") _ _ (by_slave t form.Reset (codes "reset") s (λ s. Reset s) refl refl refl h refl refl) refl refl refl refl refl refl refl refl
-action_back t (Input v x) sound h = usual t (codes "in") _ _ (input_back t v x (row_at t v sound h.0) h.1) refl refl refl refl refl refl refl refl
+action_back t (Input v x) sound h =
+    let r = row_at t v sound h.0 in
+    let signed = has_sign t v in
+    usual t (codes "in") _ _ (input_back t v (value_word signed x) (Number x) r (value_plain signed x h.1) (value_for_back t v x r h.1)) refl refl refl refl refl refl refl refl
 action_back t (Never v) sound h = let r = row_at t v sound h in set_acts t _ _ _ (set_back t v below_all Outside r refl (below_for_back t v r))
 action_back t (Expect e) sound h = usual t (codes "expect") _ _ (expectation_back t e sound h) refl refl refl (wanted_expecting t.variables e h) refl refl refl refl
 action_back t (Within n e) sound h = within_acts t n e h.0 h.1 (expectation_back t e sound h.2)
@@ -775,7 +509,7 @@ action_back t Stop sound h = usual t (codes "stop") _ _ (back t form.Stop _ (cod
 -- ---- steps and lines
 
 -- words that stand for a step of line n alone
-record IsStepBack (t : Contents) (n : ℕ) (expects_no : Bool) (action : LineAction) (words : List Text) : Type 0 where
+pub record IsStepBack (t : Contents) (n : ℕ) (expects_no : Bool) (action : LineAction) (words : List Text) : Type 0 where
   verb : Text
   rest : List Text
   are : words ≡ verb ∷ rest
@@ -784,9 +518,8 @@ record IsStepBack (t : Contents) (n : ℕ) (expects_no : Bool) (action : LineAct
   plain : are_words (verb ∷ rest) ≡ true
   reads : tasks_of t n (verb ∷ rest) ≡ Some (step n expects_no action ∷ [])
 
-step_back : (t : Contents) (n : ℕ) (expects_no : Bool) (action : LineAction) → IsActionBack t action (words_for t.variables action)
-    → IsStepBack t n expects_no action (words_for_step t.variables expects_no action)
-step_back t n false action b = record {
+pub alone_back : (t : Contents) (n : ℕ) (action : LineAction) (words : List Text) → IsActionBack t action words → IsStepBack t n false action words
+alone_back t n action words b = record {
   verb = b.verb;
   rest = b.rest;
   are = b.are;
@@ -796,6 +529,10 @@ step_back t n false action b = record {
   reads = ap (λ (c : Bool). if c then Some (task.Echo (echoed b.rest) ∷ []) else steps_of t n (b.verb ∷ b.rest) (denied_words (b.verb ∷ b.rest))) b.silent
       ∙ (ap (steps_of t n (b.verb ∷ b.rest)) b.wanted ∙ ap (steps_if n false) b.reads);
 }
+
+step_back : (t : Contents) (n : ℕ) (expects_no : Bool) (action : LineAction) → IsActionBack t action (words_for t.variables action)
+    → IsStepBack t n expects_no action (words_for_step t.variables expects_no action)
+step_back t n false action b = alone_back t n action (words_for t.variables action) b
 step_back t n true action b = record {
   verb = codes "expect";
   rest = codes "no" ∷ b.verb ∷ b.rest;
@@ -807,7 +544,7 @@ step_back t n true action b = record {
 }
 
 -- words that stand for a line
-record IsLineBack (t : Contents) (line : Line) (words : List Text) : Type 0 where
+pub record IsLineBack (t : Contents) (line : Line) (words : List Text) : Type 0 where
   verb : Text
   rest : List Text
   are : words ≡ verb ∷ rest
@@ -815,10 +552,10 @@ record IsLineBack (t : Contents) (line : Line) (words : List Text) : Type 0 wher
   plain : are_words (verb ∷ rest) ≡ true
   reads : line_of_words t line.number (verb ∷ rest) ≡ Some line
 
-abbrev line_with : ℕ → ℕ → Bool → LineAction → Line
+abbrev pub line_with : ℕ → ℕ → Bool → LineAction → Line
 line_with n times expects_no action = record { number = n; times = times; tasks = step n expects_no action ∷ [] }
 
-once_back : (t : Contents) (n times : ℕ) (expects_no : Bool) (action : LineAction) (words : List Text) → times ≡ 1 → IsStepBack t n expects_no action words
+pub once_back : (t : Contents) (n times : ℕ) (expects_no : Bool) (action : LineAction) (words : List Text) → times ≡ 1 → IsStepBack t n expects_no action words
     → IsLineBack t (line_with n times expects_no action) words
 once_back t n times expects_no action words once b = record {
   verb = b.verb;
@@ -857,7 +594,7 @@ found : (t : Contents) (n : ℕ) (text : Text) (line : Line) → nat_lt 0 (lengt
 found t n [] line h is = cc
 found t n (c ∷ cs) line h is = ap found_line is
 
-text_back : (t : Contents) (line : Line) (words : List Text) → IsLineBack t line words → reading_of t line.number (joined_words words) ≡ reading.Line line
+pub text_back : (t : Contents) (line : Line) (words : List Text) → IsLineBack t line words → reading_of t line.number (joined_words words) ≡ reading.Line line
 text_back t line words b =
     let text = joined_words (b.verb ∷ b.rest) in
     let same : uncommented text ≡ text = whole text (none_marked (b.verb ∷ b.rest) b.plain) in

@@ -3,7 +3,6 @@ use Rattle.std.proofs.Common.{◌≡◌, ◌∙◌, ℕ, ◌+◌, ◌-◌, ◌*�
 use Rattle.std.proofs.lemmas.Bool.Decides.{nat_tests}
 use Rattle.std.proofs.lemmas.List.{length-reverse, reverse-reverse}
 use Rattle.ec_table.specs.Contents.{Contents}
-use Rattle.ec_script.specs.declared.draft.Due.{Due}
 use Rattle.ec_script.specs.declared.draft.Due.TheVariants as due
 use Rattle.ec_script.specs.declared.draft.PieceReading.{PieceReading}
 use Rattle.ec_script.specs.declared.draft.PieceReading.TheVariants as read_as

@@ -7,7 +7,7 @@ use Rattle.std.proofs.lemmas.Bool.Decides.{nat_tests}
 use Rattle.std.proofs.lemmas.List.{take-append-drop}
 use Rattle.std.proofs.lemmas.Slice.Eq.{bytes_eq-Decides}
 use Rattle.std.proofs.lemmas.Str.Pattern.{strip_prefix_char}
-use Rattle.ec_script.specs.Words.{Text, hex_of, number_of, plain_of}
+use Rattle.ec_script.specs.Words.{Text}
 
 abbrev Stripped : List ℕ → Text → Option (Bor Text) → Type 0
 Stripped p word r = MatchOption r (FindsTextPrefix p word None) (λ x. StripsPrefix (FindsTextPrefix p) word x.now)
@@ -18,27 +18,26 @@ false_from false h = refl
 
 -- ---- numbers without a sign
 
-prefixed : (word : Text) (x : Bor Text) → Stripped (codes "0x") word (Some x) → hex_of x.now ≡ plain_of word
-unfolding plain_of
+-- a word that begins with `0x`, and its digits
+abbrev IsPrefixed : Text → Bor Text → Type 0
+IsPrefixed word x = (bytes_eq (take 2 word) (codes "0x") ≡ true) × (x.now ≡ drop 2 word)
+
+prefixed : (word : Text) (x : Bor Text) → Stripped (codes "0x") word (Some x) → IsPrefixed word x
 prefixed word x (n, (two, split, at), is, long) =
     let first : take 2 word ≡ codes "0x" = ap (take 2) split in
-    let yes : bytes_eq (take 2 word) (codes "0x") ≡ true = (bytes_eq-Decides (take 2 word) (codes "0x")).1 first in
-    let rest : x.now ≡ drop 2 word = is ∙ ap (λ k. drop k word) two in
-    rw (yes, rest) refl
+    ((bytes_eq-Decides (take 2 word) (codes "0x")).1 first, is ∙ ap (λ k. drop k word) two)
 
-unprefixed : (word : Text) → Stripped (codes "0x") word None → number_of word ≡ plain_of word
-unfolding plain_of
-unprefixed word none =
-    let no : bytes_eq (take 2 word) (codes "0x") ≡ false = false_from _ (λ is.
+unprefixed : (word : Text) → Stripped (codes "0x") word None → bytes_eq (take 2 word) (codes "0x") ≡ false
+unprefixed word none = false_from _ (λ is.
     let first : take 2 word ≡ codes "0x" = (bytes_eq-Decides (take 2 word) (codes "0x")).0 is in
-    none (drop 2 word) (sym (take-append-drop 2 word) ∙ ap (λ (xs : Text). xs ++ drop 2 word) first)) in
-    rw no refl
+    none (drop 2 word) (sym (take-append-drop 2 word) ∙ ap (λ (xs : Text). xs ++ drop 2 word) first))
 
-pub plain_hex : (word : Text) (r : Option (Bor Text)) (x : Bor Text) → Stripped (codes "0x") word r → r ≡ Some x → hex_of x.now ≡ plain_of word
+pub plain_hex : (word : Text) (r : Option (Bor Text)) (x : Bor Text) → Stripped (codes "0x") word r → r ≡ Some x
+    → (bytes_eq (take 2 word) (codes "0x") ≡ true) × (x.now ≡ drop 2 word)
 plain_hex word None x h is = cc
-plain_hex word (Some y) x h is = let same : y ≡ x = cc in subst (λ (z : Bor Text). hex_of z.now ≡ plain_of word) same (prefixed word y h)
+plain_hex word (Some y) x h is = let same : y ≡ x = cc in subst (IsPrefixed word) same (prefixed word y h)
 
-pub plain_number : (word : Text) (r : Option (Bor Text)) → Stripped (codes "0x") word r → r ≡ None → number_of word ≡ plain_of word
+pub plain_number : (word : Text) (r : Option (Bor Text)) → Stripped (codes "0x") word r → r ≡ None → bytes_eq (take 2 word) (codes "0x") ≡ false
 plain_number word None h is = unprefixed word h
 plain_number word (Some y) h is = cc
 

@@ -13,7 +13,7 @@ use Rattle.ec_script.specs.declared.value_test.ValueTest.{ValueTest}
 use Rattle.ec_script.specs.declared.value.WrittenValue.{WrittenValue}
 use Rattle.ec_script.specs.declared.value.WrittenValue.TheVariants.{Number, Outside}
 use Rattle.ec_script.specs.Forms.{form_of}
-use Rattle.ec_script.specs.Operands.{◌>>=◌, assignment_at, bounds_at, byte_at, code_at, held_at, number_at, slave_at, state_at, variable_at}
+use Rattle.ec_script.specs.Operands.{◌>>=◌, assignment_at, bounds_at, byte_at, code_at, held_at, mask_at, number_at, slave_at, state_at, variable_at}
 use Rattle.ec_script.specs.Tests.{between_test, compared_test, masked_test}
 use Rattle.ec_script.specs.Words.{Text}
 
@@ -48,7 +48,7 @@ expectation_of_form t words expected.Failed = Some (expects.Failed None)
 expectation_of_form t words expected.Code = slave_at t words 2 >>= (λ s. state_at words 3 >>= (λ a. code_at words 4 >>= (λ c. Some (expects.State s a (Some c)))))
 expectation_of_form t words expected.State = slave_at t words 2 >>= (λ s. state_at words 3 >>= (λ a. Some (expects.State s a None)))
 expectation_of_form t words (expected.Compared c) = held_at t words 1 3 >>= (λ a. Some (test_expected a.0 (compared_test c a.1)))
-expectation_of_form t words (expected.Masked is) = held_at t words 1 3 >>= (λ m. held_at t words 1 5 >>= (λ a. Some (test_expected m.0 (masked_test is m.1 a.1))))
+expectation_of_form t words (expected.Masked is) = mask_at t words 1 3 >>= (λ m. mask_at t words 1 5 >>= (λ a. Some (test_expected m.0 (masked_test is m.1 a.1))))
 expectation_of_form t words expected.Range = bounds_at t words 1 2 >>= (λ b. Some (test_expected b.0 (between_test b.1.0 b.1.1)))
 expectation_of_form t words expected.Value = assignment_at t words 1 2 >>= (λ a. Some (value_expected a))
 

@@ -1,12 +1,16 @@
 -- When what a line expects of a master holds (this project's profile).
-use Rattle.std.specs.Prelude.{ℕ, ◌==◌, ◌&&◌, not, Bool, true, false, Option, Some, None, Result, Ok, Err}
+use Rattle.std.specs.Prelude.{ℕ, ◌==◌, ◌&&◌, not, Bool, true, false, Option, Some, None, Result, Ok, Err, slice_get}
 use Rattle.std.specs.List.{list_all, list_any, zip}
 use Rattle.ec_cycle.specs.Closing.{ReportState}
+use Rattle.ec_cycle.specs.Master.{MasterState}
+use Rattle.ec_link.specs.Image.{number_of}
+use Rattle.ec_link.specs.declared.image.Variable.{Variable}
 use Rattle.ec_start.specs.declared.error.StartError.{StartError}
 use Rattle.ec_start.specs.Errors.{error_number}
 use Rattle.ec_text.specs.InputText.{value_of_variable}
 use Rattle.ec_script.specs.declared.expectation.Expectation.{Expectation}
 use Rattle.ec_script.specs.declared.expectation.Expectation.TheVariants.{Is, Holds, Never, Units, Unit as OneUnit, State as InState, Ready, Failed}
+use Rattle.ec_script.specs.declared.value_test.ValueTest.{ValueTest}
 use Rattle.ec_script.specs.Tests.{holds}
 use Rattle.ec_script.specs.Views.{ViewState}
 
@@ -41,12 +45,19 @@ abbrev pub is_failed : Option ℕ → Option (Result Unit StartError) → Bool
 is_failed number (Some (Err error)) = is_refusal number error
 is_failed number _ = false
 
+-- ---- values
+
+-- the value of the n-th variable in the process image meets a test; false if there is no such variable
+abbrev pub is_tested : ValueTest → MasterState → ℕ → Option Variable → Bool
+is_tested test m n None = false
+is_tested test m n (Some v) = holds (number_of v) test (value_of_variable m n)
+
 -- ---- whatever is expected
 
 -- a variable by the process image; a master alone sees no state of a slave
 abbrev pub is_met : Expectation → ViewState → Bool
 is_met (Is v x) view = value_of_variable view.master v == x
-is_met (Holds v test) view = holds test (value_of_variable view.master v)
+is_met (Holds v test) view = is_tested test view.master v (slice_get view.master.plan.variables v)
 is_met (Never v) view = false
 is_met (Units taken) view = of_report (all_units taken) view.report
 is_met (OneUnit u taken) view = of_report (is_unit u taken) view.report

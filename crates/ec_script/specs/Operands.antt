@@ -1,5 +1,5 @@
 -- What single words of a line stand for (this project's profile).
-use Rattle.std.specs.Prelude.{ℕ, List, if◌then◌else◌, Option, Some, None, option_and_then, option_map, slice_get, codes}
+use Rattle.std.specs.Prelude.{ℕ, List, false, if◌then◌else◌, Option, Some, None, option_and_then, option_map, slice_get, codes}
 use Rattle.std.specs.Char.{is_ascii_digit}
 use Rattle.std.specs.List.{list_all}
 use Rattle.std.specs.Str.{bytes_eq}
@@ -41,7 +41,7 @@ state_named name =
 
 abbrev pub row_value : Text → Option VariableRow → Option WrittenValue
 row_value word None = None
-row_value word (Some row) = value_of row.bits word
+row_value word (Some row) = value_of row.signed row.bits word
 
 -- the value that a word writes for the variable at a place
 abbrev pub value_for : List VariableRow → ℕ → Text → Option WrittenValue
@@ -49,11 +49,20 @@ value_for variables v word = row_value word (slice_get variables v)
 
 abbrev pub row_held : Text → Option VariableRow → Option (Option ℕ)
 row_held word None = None
-row_held word (Some row) = option_map (held_in row.bits) (value_of row.bits word)
+row_held word (Some row) = option_map (held_in row.bits) (value_of row.signed row.bits word)
 
 -- the number that a word writes for the variable at a place, if its bits hold it
 abbrev pub held_for : List VariableRow → ℕ → Text → Option (Option ℕ)
 held_for variables v word = row_held word (slice_get variables v)
+
+-- a mask and its bits have no sign
+abbrev pub row_mask : Text → Option VariableRow → Option (Option ℕ)
+row_mask word None = None
+row_mask word (Some row) = option_map (held_in row.bits) (value_of false row.bits word)
+
+-- the mask that a word writes for the variable at a place, or what is in it, if the variable's bits hold it
+abbrev pub mask_for : List VariableRow → ℕ → Text → Option (Option ℕ)
+mask_for variables v word = row_mask word (slice_get variables v)
 
 -- ---- by the place of the word in its line, from 0 on
 
@@ -67,6 +76,10 @@ assignment_at t words i j = variable_at t words i >>= (λ v. slice_get words j >
 -- a variable by its name, and a number for it
 abbrev pub held_at : Contents → List Text → ℕ → ℕ → Option (ℕ × Option ℕ)
 held_at t words i j = variable_at t words i >>= (λ v. slice_get words j >>= held_for t.variables v >>= (λ n. Some (v, n)))
+
+-- a variable by its name, and a mask for it
+abbrev pub mask_at : Contents → List Text → ℕ → ℕ → Option (ℕ × Option ℕ)
+mask_at t words i j = variable_at t words i >>= (λ v. slice_get words j >>= mask_for t.variables v >>= (λ n. Some (v, n)))
 
 -- two numbers, with `..` between them
 abbrev pub bounds_for : List VariableRow → ℕ → Text × Text → Option (Option ℕ × Option ℕ)

@@ -1,25 +1,25 @@
--- Tests of the value of a variable (this project's profile). Values are numbers without a sign.
-use Rattle.std.specs.Prelude.{ℕ, ◌==◌, ◌&&◌, not, nat_lt, nat_le, bit_and, Bool, true, false, if◌then◌else◌, Option, Some, None, option_map}
+-- Tests of the value of a variable (this project's profile). Values of a signed variable are compared as numbers with a sign.
+use Rattle.std.specs.Prelude.{ℕ, ℤ, ◌==◌, ◌&&◌, not, int_lt, int_le, bit_and, Bool, true, false, if◌then◌else◌, Option, Some, None, option_map}
 use Rattle.ec_script.specs.declared.value_test.Comparison.{Comparison}
 use Rattle.ec_script.specs.declared.value_test.Comparison.TheVariants.{Equal, Unequal, Less, LessEqual, Greater, GreaterEqual}
 use Rattle.ec_script.specs.declared.value_test.ValueTest.{ValueTest}
 use Rattle.ec_script.specs.declared.value_test.ValueTest.TheVariants.{Compared, Masked, Between}
 
--- ---- whether a value meets a test
+-- ---- whether a value meets a test, by the number that a value is
 
-abbrev pub compares : Comparison → ℕ → ℕ → Bool
-compares Equal x n = x == n
-compares Unequal x n = not (x == n)
-compares Less x n = nat_lt x n
-compares LessEqual x n = nat_le x n
-compares Greater x n = nat_lt n x
-compares GreaterEqual x n = nat_le n x
+abbrev pub compares : (ℕ → ℤ) → Comparison → ℕ → ℕ → Bool
+compares number Equal x n = x == n
+compares number Unequal x n = not (x == n)
+compares number Less x n = int_lt (number x) (number n)
+compares number LessEqual x n = int_le (number x) (number n)
+compares number Greater x n = int_lt (number n) (number x)
+compares number GreaterEqual x n = int_le (number n) (number x)
 
-abbrev pub holds : ValueTest → ℕ → Bool
-holds (Compared c n) x = compares c x n
-holds (Masked mask true n) x = bit_and x mask == n
-holds (Masked mask false n) x = not (bit_and x mask == n)
-holds (Between low high) x = nat_le low x && nat_le x high
+abbrev pub holds : (ℕ → ℤ) → ValueTest → ℕ → Bool
+holds number (Compared c n) x = compares number c x n
+holds number (Masked mask true n) x = bit_and x mask == n
+holds number (Masked mask false n) x = not (bit_and x mask == n)
+holds number (Between low high) x = int_le (number low) (number x) && int_le (number x) (number high)
 
 -- ---- the tests of numbers, each of which a variable's bits hold or not
 

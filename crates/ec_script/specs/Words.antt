@@ -91,17 +91,21 @@ is_range word = is_some (bounds_of word)
 
 -- ---- values
 
--- a number without a sign: decimal, or `0x` and hex digits
-unfoldable pub plain_of : Text → Option ℕ
-plain_of word = if bytes_eq (take 2 word) (codes "0x") then hex_of (drop 2 word) else number_of word
-
 -- a number below 0 by its two's complement in this many bits, if they have one
 abbrev pub negative_of : ℕ → ℕ → WrittenValue
 negative_of bits n = if n == 0 then Number 0 else (if nat_le n (2 ^ (bits - 1)) then Number (2 ^ bits - n) else Outside)
 
--- the value that a word writes for this many bits
-unfoldable pub value_of : ℕ → Text → Option WrittenValue
-value_of bits word = if slice_index word 0 == 45 then option_map (negative_of bits) (number_of (drop 1 word)) else option_map Number (plain_of word)
+-- another number; with a sign, this many bits have none from half of their values on
+abbrev pub positive_of : (signed : Bool) → ℕ → ℕ → WrittenValue
+positive_of signed bits n = if signed && nat_le (2 ^ (bits - 1)) n then Outside else Number n
+
+-- what a word without a sign writes: a number in decimal, or bits as `0x` and hex digits
+unfoldable pub plain_of : (signed : Bool) → ℕ → Text → Option WrittenValue
+plain_of signed bits word = if bytes_eq (take 2 word) (codes "0x") then option_map Number (hex_of (drop 2 word)) else option_map (positive_of signed bits) (number_of word)
+
+-- the value that a word writes for this many bits, of a variable that is signed or not
+unfoldable pub value_of : (signed : Bool) → ℕ → Text → Option WrittenValue
+value_of signed bits word = if slice_index word 0 == 45 then option_map (negative_of bits) (number_of (drop 1 word)) else plain_of signed bits word
 
 -- the number that is written, if this many bits hold it
 abbrev pub held_in : ℕ → WrittenValue → Option ℕ

@@ -1,10 +1,11 @@
 -- How a line is written, and that it is read back (this project's profile).
 use Rattle.std.specs.Prelude.{ℕ, ◌<◌, ◌≤◌, ◌≡◌, ◌≢◌, ◌/◌, ◌%◌, ◌^◌, ◌==◌, List, [], ◌∷◌, ◌++◌, length, Bool, true, false, if◌then◌else◌, Option, Some, None, bit_and, slice_get, codes}
 use Rattle.std.specs.Char.{digit_char}
-use Rattle.std.specs.Fmt.{decimal}
+use Rattle.std.specs.Fmt.{decimal, digits, signed_decimal}
 use Rattle.ec_al.specs.declared.state.State.{State}
 use Rattle.ec_al.specs.declared.state.State.TheVariants.{Init, PreOp, SafeOp, Op}
 use Rattle.ec_table.specs.Contents.{Contents}
+use Rattle.ec_table.specs.Numbers.{number_at}
 use Rattle.ec_table.specs.Sound as table
 use Rattle.ec_table.specs.declared.rows.VariableRow.{VariableRow}
 use Rattle.ec_script.specs.declared.expectation.Expectation.{Expectation}
@@ -15,6 +16,7 @@ use Rattle.ec_script.specs.declared.value_test.ValueTest.{ValueTest}
 use Rattle.ec_script.specs.declared.value_test.ValueTest.TheVariants.{Compared, Masked, Between}
 use Rattle.ec_script.specs.declared.line.LineAction.{LineAction}
 use Rattle.ec_script.specs.declared.line.LineAction.TheVariants.{Start, Set, Begin, Pass, Lose, LosePart, Return, Close, Serve, Put, Get, Fail, Reset, Input, Never, Expect, Ready, Cycle, Within, Show, ShowVariable, Output, Served, Report, States, Stop}
+use Rattle.ec_script.specs.declared.line.Line.{Line}
 use Rattle.ec_script.specs.declared.read.Reading.TheVariants as reading
 use Rattle.ec_script.specs.Words.{Text}
 use Rattle.ec_script.specs.Scripts.{reading_of}
@@ -25,6 +27,19 @@ use Rattle.ec_script.specs.Tasks.{step}
 abbrev pub row_name : Option VariableRow → Text
 row_name None = []
 row_name (Some row) = row.name
+
+abbrev pub is_signed : Option VariableRow → Bool
+is_signed None = false
+is_signed (Some row) = row.signed
+
+-- the bits of a number in hex digits
+abbrev pub hex_word : ℕ → Text
+hex_word n = codes "0x" ++ digits 16 false n
+
+-- a value of a variable, by its bits if the variable is signed
+abbrev pub value_word : (signed : Bool) → ℕ → Text
+value_word false x = decimal x
+value_word true x = hex_word x
 
 -- below each number that 64 bits hold
 abbrev pub below_all : Text
@@ -66,19 +81,19 @@ abbrev pub masked_word : Bool → Text
 masked_word true = codes "=="
 masked_word false = codes "!="
 
-abbrev pub range_word : ℕ → ℕ → Text
-range_word low high = decimal low ++ (46 ∷ 46 ∷ decimal high)
+abbrev pub range_word : (signed : Bool) → ℕ → ℕ → Text
+range_word signed low high = value_word signed low ++ (46 ∷ 46 ∷ value_word signed high)
 
-abbrev pub test_words : ValueTest → List Text
-test_words (Compared c n) = sign_word c ∷ decimal n ∷ []
-test_words (Masked mask is n) = codes "&" ∷ decimal mask ∷ masked_word is ∷ decimal n ∷ []
-test_words (Between low high) = range_word low high ∷ []
+abbrev pub test_words : (signed : Bool) → ValueTest → List Text
+test_words signed (Compared c n) = sign_word c ∷ value_word signed n ∷ []
+test_words signed (Masked mask is n) = codes "&" ∷ decimal mask ∷ masked_word is ∷ decimal n ∷ []
+test_words signed (Between low high) = range_word signed low high ∷ []
 
 -- ---- actions
 
 abbrev pub words_expecting : List VariableRow → Expectation → List Text
-words_expecting variables (expects.Is v x) = row_name (slice_get variables v) ∷ decimal x ∷ []
-words_expecting variables (expects.Holds v test) = row_name (slice_get variables v) ∷ test_words test
+words_expecting variables (expects.Is v x) = row_name (slice_get variables v) ∷ value_word (is_signed (slice_get variables v)) x ∷ []
+words_expecting variables (expects.Holds v test) = row_name (slice_get variables v) ∷ test_words (is_signed (slice_get variables v)) test
 words_expecting variables (expects.Never v) = row_name (slice_get variables v) ∷ below_all ∷ []
 words_expecting variables (expects.Units taken) = taken_word taken ∷ []
 words_expecting variables (expects.Unit u taken) = taken_word taken ∷ decimal u ∷ []
@@ -88,7 +103,7 @@ words_expecting variables (expects.Failed number) = codes "failed" ∷ number_wo
 
 abbrev pub words_for : List VariableRow → LineAction → List Text
 words_for variables Start = codes "start" ∷ []
-words_for variables (Set v x) = codes "set" ∷ row_name (slice_get variables v) ∷ decimal x ∷ []
+words_for variables (Set v x) = codes "set" ∷ row_name (slice_get variables v) ∷ value_word (is_signed (slice_get variables v)) x ∷ []
 words_for variables Begin = codes "begin" ∷ []
 words_for variables (Pass k) = codes "pass" ∷ decimal k ∷ []
 words_for variables (Lose k) = codes "lose" ∷ decimal k ∷ []
@@ -100,7 +115,7 @@ words_for variables (Put s i x) = codes "put" ∷ decimal s ∷ decimal i ∷ de
 words_for variables (Get s i) = codes "get" ∷ decimal s ∷ decimal i ∷ []
 words_for variables (Fail s) = codes "fault" ∷ decimal s ∷ []
 words_for variables (Reset s) = codes "reset" ∷ decimal s ∷ []
-words_for variables (Input v x) = codes "in" ∷ row_name (slice_get variables v) ∷ decimal x ∷ []
+words_for variables (Input v x) = codes "in" ∷ row_name (slice_get variables v) ∷ value_word (is_signed (slice_get variables v)) x ∷ []
 words_for variables (Never v) = codes "set" ∷ row_name (slice_get variables v) ∷ below_all ∷ []
 words_for variables (Expect e) = codes "expect" ∷ words_expecting variables e
 words_for variables Ready = codes "ready" ∷ []
@@ -211,3 +226,20 @@ abbrev pub LinesReadBack : Type 0
 LinesReadBack =
     (t : Contents) (n times : ℕ) (expects_no : Bool) (action : LineAction) → table.IsSound t → IsLineOf t.variables times action
     → reading_of t n (joined_words (words_for_line t.variables times expects_no action)) ≡ reading.Line (record { number = n; times = times; tasks = step n expects_no action ∷ [] })
+
+-- ---- printed numbers
+
+-- a verb, a variable and the number that a value of it is printed as
+abbrev pub line_printed : Contents → Text → ℕ → ℕ → Text
+line_printed t verb v x = joined_words (verb ∷ row_name (slice_get t.variables v) ∷ signed_decimal (number_at t v x) ∷ [])
+
+abbrev pub once : ℕ → LineAction → Line
+once n action = record { number = n; times = 1; tasks = step n false action ∷ [] }
+
+-- The number that a variable's value is printed as is read as that value.
+abbrev pub PrintedIsRead : Type 0
+PrintedIsRead =
+    (t : Contents) (n v x : ℕ) → table.IsSound t → v < length t.variables → x < 2 ^ row_bits (slice_get t.variables v)
+    → (reading_of t n (line_printed t (codes "set") v x) ≡ reading.Line (once n (Set v x)))
+    × (reading_of t n (line_printed t (codes "in") v x) ≡ reading.Line (once n (Input v x)))
+    × (IsOtherWord (row_name (slice_get t.variables v)) → reading_of t n (line_printed t (codes "expect") v x) ≡ reading.Line (once n (Expect (expects.Is v x))))

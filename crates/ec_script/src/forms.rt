@@ -248,7 +248,7 @@ fn expectation_of_form(form: ExpectForm, words: Operands<'_>) -> Option<Expectat
             test_expected(variable, compared_test(comparison, number))
         }
         ExpectForm::Masked(is) => {
-            let ((variable, mask), (_, number)) = (words.held(1, 3)?, words.held(1, 5)?);
+            let ((variable, mask), (_, number)) = (words.mask(1, 3)?, words.mask(1, 5)?);
             test_expected(variable, masked_test(is, mask, number))
         }
         ExpectForm::Range => {

@@ -1,12 +1,17 @@
 //! Laws of the lines. Each function does nothing: its contract is the law.
 ghost use Rattle.ec_script.specs.Drafts.{BoundedDrafts, ScriptsCome};
 ghost use Rattle.ec_script.specs.Scripts.{BoundedScripts, PlainScripts};
-ghost use Rattle.ec_script.specs.Writing.{LinesReadBack};
+ghost use Rattle.ec_script.specs.Writing.{LinesReadBack, PrintedIsRead};
 
 /// The line that is written for an action of a table's script is read as that line.
 #[tactic(auto, using(crate::proofs::ReadingBack::lines_read_back))]
 pub fn lines_read_back()
     ensures { LinesReadBack }
+{}
+
+/// The number that a variable's value is printed as is read as that value.
+pub fn printed_numbers_are_read()
+    ensures { PrintedIsRead }
 {}
 
 /// A script without blocks is the lines of its texts, one after another.

@@ -1,10 +1,11 @@
 //! Whether what a line expects of a master holds.
-ghost use Rattle.std.specs.Prelude.{◌≡◌};
-ghost use Rattle.ec_script.specs.Expecting.{all_units, is_failed, is_met, is_ready, is_unit, of_report};
+ghost use Rattle.std.specs.Prelude.{◌≡◌, slice_get};
+ghost use Rattle.ec_script.specs.Expecting.{all_units, is_failed, is_met, is_ready, is_tested, is_unit, of_report};
 
 use crate::expectation::Expectation;
+use crate::value_test::ValueTest;
 use crate::view::MasterView;
-use ec_cycle::Report;
+use ec_cycle::{Master, Report};
 use ec_start::StartError;
 use ec_text::value_of;
 
@@ -15,12 +16,22 @@ pub fn is_met(view: &MasterView<'_, '_>, expected: Expectation) -> bool
 {
     match expected {
         Expectation::Is(variable, value) => value_of(view.master, variable) == value,
-        Expectation::Holds(variable, test) => test.holds(value_of(view.master, variable)),
+        Expectation::Holds(variable, test) => is_tested(view.master, variable, test),
         Expectation::Never(_) | Expectation::State(_, _, _) => false,
         Expectation::Units(taken) => are_units(view, taken),
         Expectation::Unit(number, taken) => has_unit(view, number, taken),
         Expectation::Ready => is_ready(view.outcome),
         Expectation::Failed(number) => is_failed(number, view.outcome),
+    }
+}
+
+/// Whether the value of a variable in the process image meets a test; false if there is no such variable.
+fn is_tested(master: &Master<'_>, variable: usize, test: ValueTest) -> bool
+    ensures { result ≡ is_tested test master.now variable (slice_get master.now.plan.variables variable) }
+{
+    match master.plan().variables().get(variable) {
+        Some(place) => test.holds(*place, value_of(master, variable)),
+        None => false,
     }
 }
 

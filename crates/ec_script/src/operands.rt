@@ -4,7 +4,7 @@ ghost use Rattle.std.specs.Char.{is_ascii_digit};
 ghost use Rattle.std.specs.List.{list_all, slice_get};
 ghost use Rattle.std.specs.Option.{option_and_then, option_map};
 ghost use Rattle.ec_script.specs.Words.{bounds_of};
-ghost use Rattle.ec_script.specs.Operands.{assignment_at, bounds_at, bounds_for, byte_at, code_at, held_at, held_for, number_at, slave_at, slave_in, slave_named, state_at, state_named, value_for, variable_at, variable_named};
+ghost use Rattle.ec_script.specs.Operands.{assignment_at, bounds_at, bounds_for, byte_at, code_at, held_at, held_for, mask_at, mask_for, number_at, slave_at, slave_in, slave_named, state_at, state_named, value_for, variable_at, variable_named};
 
 use crate::value::{WrittenValue, bounds_of, held_in, value_of};
 use crate::words::{byte_of, code_of, number_of};
@@ -84,6 +84,15 @@ impl<'l> Operands<'l> {
         let variable = variable_named(self.table.variables(), self.word(name)?)?;
         let number = held_for(self.table, variable, self.word(value)?)?;
         Some((variable, number))
+    }
+
+    /// As [`held`](Operands::held), for a mask or what is in it, which have no sign.
+    pub fn mask(self, name: usize, value: usize) -> Option<(usize, Option<u64>)>
+        ensures { result ≡ mask_at self.entry.table.now (map (λ x. x.now) self.entry.words.now) name value }
+    {
+        let variable = variable_named(self.table.variables(), self.word(name)?)?;
+        let mask = mask_for(self.table, variable, self.word(value)?)?;
+        Some((variable, mask))
     }
 
     /// As [`held`](Operands::held), for the two numbers of a range.
@@ -193,7 +202,8 @@ fn value_for(table: &Table, variable: usize, word: &str) -> Option<WrittenValue>
     requires { variable < length table.now.variables }
     ensures { result ≡ value_for table.now.variables variable word.now }
 {
-    value_of(table.variables()[variable].bits, word)
+    let row = &table.variables()[variable];
+    value_of(row.signed, row.bits, word)
 }
 
 /// The number that a word writes for the variable at a place, if its bits hold it; `None` if the word writes no value.
@@ -201,8 +211,19 @@ fn held_for(table: &Table, variable: usize, word: &str) -> Option<Option<u64>>
     requires { variable < length table.now.variables }
     ensures { result ≡ held_for table.now.variables variable word.now }
 {
+    let row = &table.variables()[variable];
+    let value = value_of(row.signed, row.bits, word)?;
+    Some(held_in(row.bits, value))
+}
+
+/// The mask that a word writes for the variable at a place, or what is in it, if the variable's bits hold it; `None` if the word writes no
+/// value. It has no sign.
+fn mask_for(table: &Table, variable: usize, word: &str) -> Option<Option<u64>>
+    requires { variable < length table.now.variables }
+    ensures { result ≡ mask_for table.now.variables variable word.now }
+{
     let bits = table.variables()[variable].bits;
-    Some(held_in(bits, value_of(bits, word)?))
+    Some(held_in(bits, value_of(false, bits, word)?))
 }
 
 /// The numbers before and behind the `..` of a word, for the variable at a place; `None` if it isn't two values.

@@ -1,5 +1,6 @@
 //! The output of a line, and what it prints.
-ghost use Rattle.std.specs.Prelude.{◌≡◌, ◌++◌, IfOk, OnOk, slice_get, string_bytes};
+ghost use Rattle.std.specs.Prelude.{◌≡◌, ◌++◌, IfOk, OnOk, Some, slice_get, string_bytes};
+ghost use Rattle.ec_table.specs.Numbers.{number_at};
 ghost use Rattle.ec_text.specs.ReportText.{report_if};
 ghost use Rattle.ec_script.specs.Outputs.{answer_of, is_counted, is_done, is_unmet, output_if};
 ghost use Rattle.ec_script.specs.Texts.{byte_text, output_text, value_text};
@@ -9,7 +10,7 @@ use crate::states::state_lines;
 use crate::view::MasterView;
 use ec_asking::AlStatus;
 use ec_start::StartError;
-use ec_table::{Table, Version};
+use ec_table::{Table, VariableRow, Version};
 use ec_text::{input_lines, write_outcome, write_report};
 use std::alloc::{AllocError, Global};
 use std::fmt::Write as _;
@@ -145,15 +146,20 @@ fn write_value(
     value: u64,
 ) -> Result<(), AllocError>
     ensures { OnOk result (string_bytes text.new
-        ≡ string_bytes text.old ++ value_text value (slice_get table.now.variables variable)) }
+        ≡ string_bytes text.old ++ value_text (number_at table.now variable value) (slice_get table.now.variables variable)) }
 {
     match table.variables().get(variable) {
         None => Ok(()),
-        Some(row) => {
-            let name = row.name.as_str();
-            writeln!(text, "{name} {value}")
-        }
+        Some(row) => write_number(text, row, table.number(variable, value)),
     }
+}
+
+/// Adds the name of a variable and the number that its value is.
+fn write_number(text: &mut String, row: &VariableRow, number: i128) -> Result<(), AllocError>
+    ensures { OnOk result (string_bytes text.new ≡ string_bytes text.old ++ value_text number (Some row.now)) }
+{
+    let name = row.name.as_str();
+    writeln!(text, "{name} {number}")
 }
 
 /// Adds the line of the byte that an application read, if one did.

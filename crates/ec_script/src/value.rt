@@ -1,7 +1,7 @@
 //! Values of variables as words of a line write them.
 ghost use Rattle.std.specs.Prelude.{◌≡◌, ◌≤◌};
 ghost use Rattle.std.specs.Option.{option_map};
-ghost use Rattle.ec_script.specs.Words.{bounds_of, held_in, hex_of, is_range, negative_of, plain_of, value_of};
+ghost use Rattle.ec_script.specs.Words.{bounds_of, held_in, hex_of, is_range, negative_of, plain_of, positive_of, value_of};
 
 use crate::words::number_of;
 use ec_bits::is_short;
@@ -11,7 +11,7 @@ use ec_bits::is_short;
 pub enum WrittenValue {
     /// This number, which may be greater than the variable's bits hold.
     Number(u64),
-    /// A number below 0 that has no two's complement in the variable's bits.
+    /// A number that has no two's complement in the variable's bits: one below 0, or of a signed variable one that is too great.
     Outside,
 }
 
@@ -26,15 +26,16 @@ pub fn hex_of(word: &str) -> Option<u64>
     u64::from_str_radix(word, 16).ok()
 }
 
-/// The value that a word writes for a variable of `bits` bits: a number, or `-` and decimal digits. `None` if it writes none.
-pub fn value_of(bits: u8, word: &str) -> Option<WrittenValue>
+/// The value that a word writes for a variable of `bits` bits, which is signed or not. It is a number in decimal, or `0x` and the value's bits
+/// in hex digits, or `-` and decimal digits. `None` if the word writes none.
+pub fn value_of(signed: bool, bits: u8, word: &str) -> Option<WrittenValue>
     requires some { 1 ≤ bits }
     requires few { bits ≤ 64 }
-    ensures { result ≡ value_of bits word.now }
+    ensures { result ≡ value_of signed bits word.now }
 {
     match word.strip_prefix('-') {
         Some(digits) => Some(negative_of(bits, number_of(digits)?)),
-        None => Some(WrittenValue::Number(plain_of(word)?)),
+        None => plain_of(signed, bits, word),
     }
 }
 
@@ -54,13 +55,28 @@ fn negative_of(bits: u8, n: u64) -> WrittenValue
     }
 }
 
-/// The number that a word writes without a sign: decimal digits, or `0x` and hex digits.
-fn plain_of(word: &str) -> Option<u64>
-    ensures { result ≡ plain_of word.now }
+/// The value of a number without a sign in `bits` bits; `Outside` if it needs the bit that is the sign of a signed one.
+fn positive_of(signed: bool, bits: u8, n: u64) -> WrittenValue
+    requires some { 1 ≤ bits }
+    requires few { bits ≤ 64 }
+    ensures { result ≡ positive_of signed bits n }
+{
+    if signed && n >= 1u64 << (bits - 1) {
+        WrittenValue::Outside
+    } else {
+        WrittenValue::Number(n)
+    }
+}
+
+/// What a word writes without a sign: a number in decimal, or `0x` and bits in hex digits.
+fn plain_of(signed: bool, bits: u8, word: &str) -> Option<WrittenValue>
+    requires some { 1 ≤ bits }
+    requires few { bits ≤ 64 }
+    ensures { result ≡ plain_of signed bits word.now }
 {
     match word.strip_prefix("0x") {
-        Some(digits) => hex_of(digits),
-        None => number_of(word),
+        Some(digits) => Some(WrittenValue::Number(hex_of(digits)?)),
+        None => Some(positive_of(signed, bits, number_of(word)?)),
     }
 }
 

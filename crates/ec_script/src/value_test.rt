@@ -1,6 +1,9 @@
 //! Tests of the value of a variable.
 ghost use Rattle.std.specs.Prelude.{◌≡◌};
+ghost use Rattle.ec_link.specs.Image.{number_of};
 ghost use Rattle.ec_script.specs.Tests.{between_test, compared_test, compares, holds, masked_test};
+
+use ec_link::Variable;
 
 /// How a value is compared with a number.
 #[derive(Clone, Copy, Debug, PartialEq, Eq, Drop)]
@@ -25,31 +28,35 @@ pub enum ValueTest {
 }
 
 impl Comparison {
-    /// Whether a value compares so with a number.
-    pub fn holds(self, value: u64, number: u64) -> bool
-        ensures { result ≡ compares self value number }
+    /// Whether a value of a variable compares so with another: as numbers with a sign if the variable is signed.
+    pub fn holds(self, variable: Variable, value: u64, other: u64) -> bool
+        ensures { result ≡ compares (number_of variable) self value other }
     {
+        let (left, right) = (variable.number(value), variable.number(other));
         match self {
-            Comparison::Equal => value == number,
-            Comparison::Unequal => value != number,
-            Comparison::Less => value < number,
-            Comparison::LessEqual => value <= number,
-            Comparison::Greater => value > number,
-            Comparison::GreaterEqual => value >= number,
+            Comparison::Equal => value == other,
+            Comparison::Unequal => value != other,
+            Comparison::Less => left < right,
+            Comparison::LessEqual => left <= right,
+            Comparison::Greater => left > right,
+            Comparison::GreaterEqual => left >= right,
         }
     }
 }
 
 impl ValueTest {
-    /// Whether a value meets the test.
-    pub fn holds(self, value: u64) -> bool
-        ensures { result ≡ holds self value }
+    /// Whether a value of a variable meets the test.
+    pub fn holds(self, variable: Variable, value: u64) -> bool
+        ensures { result ≡ holds (number_of variable) self value }
     {
         match self {
-            ValueTest::Compared(comparison, number) => comparison.holds(value, number),
+            ValueTest::Compared(comparison, number) => comparison.holds(variable, value, number),
             ValueTest::Masked(mask, true, number) => value & mask == number,
             ValueTest::Masked(mask, false, number) => value & mask != number,
-            ValueTest::Between(low, high) => low <= value && value <= high,
+            ValueTest::Between(low, high) => {
+                let number = variable.number(value);
+                variable.number(low) <= number && number <= variable.number(high)
+            }
         }
     }
 }

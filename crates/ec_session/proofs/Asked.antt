@@ -3,7 +3,9 @@ use Rattle.std.proofs.Common.{ℕ, zero, suc, ◌+◌, ◌≡◌, ◌∙◌, ◌
 use Rattle.std.specs.Prelude.{IsErrAnd, slice_get}
 use Rattle.std.proofs.lemmas.List.{length-take, take_all, take_more_set}
 use Rattle.ec_link.specs.declared.settings.SlavePlan.{SlavePlan}
+use Rattle.ec_start.specs.declared.action.Feed.{Feed}
 use Rattle.ec_start.specs.Running.{StartState, begun}
+use Rattle.ec_start.specs.Feeding.{feeds_of}
 use Rattle.ec_cycle.specs.Master.{MasterState, holds_value, variable_set}
 use Rattle.ec_wire.specs.declared.error.RunError.{RunError}
 use Rattle.ec_wire.specs.declared.error.SocketFault.{SocketFault}
@@ -101,10 +103,11 @@ pub cleared_refusal : (s : SessionState) → run_refusal (cleared s) ≡ run_ref
 cleared_refusal s = ap (λ (m : MasterState). run_refusal (record s { master = m })) (clearing_keeps_the_rest s.master)
 
 -- a start-up of the master's plan begins again, with a number that is new
-pub begun_again : (s : SessionState) (start : StartState) (number : ℕ) → s.startup.plan ≡ s.master.plan.slaves → start ≡ begun s.startup.plan number → number ≡ max s.startup.next s.master.next → record s { startup = start } ≡ stopped s
-begun_again s start number same is most =
+pub begun_again : (s : SessionState) (start : StartState) (number : ℕ) → s.startup.plan ≡ s.master.plan.slaves → s.startup.feeds ≡ feeds_of s.master.plan → start ≡ begun s.startup.plan s.startup.feeds number → number ≡ max s.startup.next s.master.next → record s { startup = start } ≡ stopped s
+begun_again s start number same fed is most =
     ap (λ (x : StartState). record s { startup = x })
-    (is ∙ (ap (λ (n : ℕ). begun s.startup.plan n) most ∙ ap (λ (ps : List SlavePlan). begun ps (max s.startup.next s.master.next)) same))
+    (is ∙ (ap (λ (n : ℕ). begun s.startup.plan s.startup.feeds n) most ∙ (ap (λ (ps : List SlavePlan). begun ps s.startup.feeds (max s.startup.next s.master.next)) same
+    ∙ ap (λ (fs : List Feed). begun s.master.plan.slaves fs (max s.startup.next s.master.next)) fed)))
 
 -- the cycle had a fault, and nothing is asked
 pub stop_cut : (s empty mid : SessionState) (w v : WireState) (r : Result Unit RunError) (error : RunError) → IsErrAnd r (λ e. e ≡ error) → empty ≡ cleared s

@@ -3,7 +3,10 @@ use Rattle.std.proofs.Common.{◌≡◌, ◌∙◌, ℕ, ◌+◌, List, [], ◌�
 use Rattle.ec_frame.specs.Frame.{Payload}
 use Rattle.ec_link.specs.declared.settings.SlavePlan.{SlavePlan}
 use Rattle.ec_table.specs.Contents.{Contents}
+use Rattle.ec_start.specs.declared.action.Feed.{Feed}
 use Rattle.ec_start.specs.Running.{StartState, begun}
+use Rattle.ec_start.specs.Feeding.{feeds_of}
+use Rattle.ec_start.specs.Laws.{HasSamePlan}
 use Rattle.ec_cycle.specs.Closing.{ReportState}
 use Rattle.ec_cycle.specs.Master.{MasterState, OpenCycle, IsAnswer, IsTaken, begin_refusal}
 use Rattle.ec_cycle.specs.declared.error.CycleError.{CycleError}
@@ -19,7 +22,7 @@ use Rattle.ec_session.specs.Held.{IsOfTable}
 use Rattle.ec_session.specs.Laws.{LossyRunsKeepTheRest, RunsKeepTheRest}
 use Rattle.ec_session.specs.Sessions.{SessionState, is_up, ready_with}
 use Rattle.ec_session.specs.Wired.{Cycles, LosesAndCycles, Starts, run_refusal, start_again, with_number_used, with_run, without_report}
-use Rattle.ec_session.proofs.Plans.{begun_plan}
+use Rattle.ec_session.proofs.Plans.{begun_plan, then_plan}
 
 -- ---- payloads that are taken
 
@@ -173,15 +176,16 @@ lossy_faulted s t w v r after answer up run refused is answers wire = by (begin_
 -- ---- a start-up
 
 -- it is one of the master's plan
-pub of_plan : (t : Contents) (s first start : StartState) (m : MasterState) (number : ℕ) → IsOfTable t s m → first ≡ begun s.plan number → start.plan ≡ first.plan → start.plan ≡ s.plan
-of_plan t s first start m number h is kept = kept ∙ (ap (λ (x : StartState). x.plan) is ∙ begun_plan s.plan number)
+pub of_plan : (t : Contents) (s first start : StartState) (m : MasterState) (number : ℕ) → IsOfTable t s m → first ≡ begun s.plan s.feeds number → HasSamePlan first start → HasSamePlan s start
+of_plan t s first start m number h is kept = then_plan s first start (subst (HasSamePlan s) (sym is) (begun_plan s number)) kept
 
-pub started : (s : SessionState) (w v : WireState) (first start : StartState) (new : MasterState) (number a b : ℕ) → s.startup.plan ≡ s.master.plan.slaves → first ≡ begun s.startup.plan number → number ≡ max a b
+pub started : (s : SessionState) (w v : WireState) (first start : StartState) (new : MasterState) (number a b : ℕ) → s.startup.plan ≡ s.master.plan.slaves → s.startup.feeds ≡ feeds_of s.master.plan → first ≡ begun s.startup.plan s.startup.feeds number → number ≡ max a b
     → a ≡ s.startup.next → b ≡ s.master.next → IsBroughtUp first w start v → ComesUpOver first start w v → new ≡ ready_with s.master start → Starts s w (record s { startup = start; master = new }) v
-started s w v first start new number a b same is most one other brought up behind =
+started s w v first start new number a b same fed is most one other brought up behind =
     let again : first ≡ start_again s =
-    is ∙ (ap (λ (n : ℕ). begun s.startup.plan n) (most ∙ (ap (λ (n : ℕ). max n b) one ∙ ap (λ (n : ℕ). max s.startup.next n) other))
-    ∙ ap (λ (ps : List SlavePlan). begun ps (max s.startup.next s.master.next)) same) in
+    is ∙ (ap (λ (n : ℕ). begun s.startup.plan s.startup.feeds n) (most ∙ (ap (λ (n : ℕ). max n b) one ∙ ap (λ (n : ℕ). max s.startup.next n) other))
+    ∙ (ap (λ (ps : List SlavePlan). begun ps s.startup.feeds (max s.startup.next s.master.next)) same
+    ∙ ap (λ (fs : List Feed). begun s.master.plan.slaves fs (max s.startup.next s.master.next)) fed)) in
     record {
       start = start;
       brought = subst (λ (x : StartState). IsBroughtUp x w start v) again brought;

@@ -8,6 +8,7 @@ use Rattle.ec_link.specs.Plan.{plan_of}
 use Rattle.ec_start.specs.declared.phase.Phase.{Phase}
 use Rattle.ec_start.specs.declared.phase.Phase.TheVariants.{Idle, Sent, Ready, Failed}
 use Rattle.ec_start.specs.Running.{StartState, IsStartTaken, begun, has_failed, restarted}
+use Rattle.ec_start.specs.Feeding.{feeds_of}
 use Rattle.ec_cycle.specs.Closing.{ReportState}
 use Rattle.ec_cycle.specs.Master.{MasterState, IsTaken, holds_value, new_master, readied, variable_set}
 pub use Rattle.ec_wire.specs.BringingUp.{IsNextFrame}
@@ -25,7 +26,7 @@ pub record SessionState : Type 0 where
 
 -- the session of a table: start-up and master are new
 abbrev pub new_session : Contents → SessionState
-new_session t = record { table = t; startup = begun (plan_of t).slaves 0; master = new_master (plan_of t); report = None; asked = 0 }
+new_session t = record { table = t; startup = begun (plan_of t).slaves (feeds_of (plan_of t)) 0; master = new_master (plan_of t); report = None; asked = 0 }
 
 -- the session of the table that a text states
 abbrev pub IsOpened : List ℕ → SessionState → Type 0

@@ -1,6 +1,7 @@
 -- What a session does over a wire. `ec_wire` defines a start-up and a cycle over one.
 use Rattle.std.specs.Prelude.{◌≡◌, ◌+◌, max, if◌then◌else◌, Option, Some, Result, Ok, Err}
 use Rattle.ec_start.specs.Running.{StartState, begun}
+use Rattle.ec_start.specs.Feeding.{feeds_of}
 use Rattle.ec_cycle.specs.Closing.{ReportState}
 use Rattle.ec_cycle.specs.Master.{MasterState, begin_refusal}
 use Rattle.ec_cycle.specs.declared.error.CycleError.{CycleError}
@@ -17,7 +18,7 @@ use Rattle.ec_session.specs.Sessions.{SessionState, is_up, ready_with}
 
 -- A start-up is made from its beginning, by frames whose numbers neither the last start-up nor a cycle has used.
 abbrev pub start_again : SessionState → StartState
-start_again s = begun s.master.plan.slaves (max s.startup.next s.master.next)
+start_again s = begun s.master.plan.slaves (feeds_of s.master.plan) (max s.startup.next s.master.next)
 
 -- if it ended Ready, the master can begin cycles
 abbrev pub with_start : SessionState → StartState → SessionState

@@ -3,6 +3,7 @@ ghost use Rattle.std.specs.Prelude.{◌≡◌, ◌≢◌, ◌≤◌, ◌<◌, �
 ghost use Rattle.ec_cycle.specs.Closing.{ReportState};
 ghost use Rattle.ec_cycle.specs.Master.{OpenCycle, Begun, IsClosed, IsTaken, begin_refusal, refused_by};
 ghost use Rattle.ec_cycle.specs.declared.error.CycleError.TheVariants.{NotOpen};
+ghost use Rattle.ec_start.specs.Laws.{HasSamePlan};
 ghost use Rattle.ec_start.specs.Running.{IsStartTaken, asked, given_up, next_frame};
 ghost use Rattle.ec_start.specs.declared.phase.NextFrame.TheVariants.{Send};
 ghost use Rattle.ec_session.specs.Sessions.{IsCyclic, IsGiven, IsNextFrame, IsStarting, resumed};
@@ -114,7 +115,7 @@ fn take_cycle(master: &mut Master<'_>, payload: &[u8]) -> bool
 #[tactic(auto, using(crate::proofs::Plans::take_plan))]
 fn take_start(startup: &mut Startup<'_>, payload: &[u8]) -> bool
     ensures taken { IsStartTaken startup.old payload.now result startup.new }
-    ensures plan { startup.new.plan ≡ startup.old.plan }
+    ensures plan { HasSamePlan startup.old startup.new }
 {
     match startup.take(payload) {
         Taken::Accepted => true,
@@ -128,7 +129,7 @@ fn take_start(startup: &mut Startup<'_>, payload: &[u8]) -> bool
 fn write_next(startup: &mut Startup<'_>, room: &mut [u8]) -> usize
     requires { 1472 ≤ length room.old }
     ensures state { startup.new ≡ asked (resumed startup.old) }
-    ensures plan { startup.new.plan ≡ startup.old.plan }
+    ensures plan { HasSamePlan startup.old startup.new }
     ensures frame { next_frame (resumed startup.old) ≡ Send → IsNextFrame (resumed startup.old) (take result room.new) }
     ensures none { next_frame (resumed startup.old) ≢ Send → result ≡ 0 }
     ensures within { result ≤ length room.new }

@@ -32,6 +32,7 @@ use Rattle.ec_table.specs.Contents.{Contents}
 use Rattle.ec_link.specs.Plan.{PlanState, plan_of}
 use Rattle.ec_link.proofs.Soundness.{plan_sound}
 use Rattle.ec_start.specs.Scripts.{script}
+use Rattle.ec_start.specs.Feeding.{feeds_of, frames_of}
 use Rattle.ec_world.specs.Undisturbed.{Rests, IsExchanged, round_of, rounds_of, cycle_of}
 use Rattle.ec_world.specs.NewWorld.{IsToStart}
 use Rattle.ec_world.specs.Whole.{IsNew}
@@ -228,7 +229,7 @@ rests : (t : Contents) (ids : List Identity) (old mid : WorldState) → IsNew t 
 rests t ids old mid n r =
     let up = r.up in
     let fits = script_fits t n.sound n.accepted in
-    let sent : mid.start.next ≡ old.start.next + length (script (plan_of t).slaves) = up.works.next_number in
+    let sent : mid.start.next ≡ old.start.next + frames_of (feeds_of (plan_of t)) (script (plan_of t).slaves) = up.works.next_number in
     let zero_sent : old.start.next ≡ 0 = new_next t ids old n in
     let zero_master : old.master.next ≡ 0 = ap (λ (x : WorldState). x.master.next) n.is in
     let next = up.next_number in

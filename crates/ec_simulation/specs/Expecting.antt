@@ -4,6 +4,7 @@ use Rattle.std.specs.List.{list_all, list_any}
 use Rattle.ec_al.specs.declared.state.State.{State}
 use Rattle.ec_al.specs.States.{state_number}
 use Rattle.ec_bits.specs.Bits.{bits_number}
+use Rattle.ec_link.specs.Image.{number_of}
 use Rattle.ec_link.specs.declared.image.Variable.{Variable}
 use Rattle.ec_link.specs.declared.plan.Link.{Link}
 use Rattle.ec_link.specs.LinkRuns.{is_out}
@@ -38,7 +39,7 @@ is_value w n x (Some v) =
 -- a value that slaves publish of an output meets the test: the variable has a link, and the slave of each publishes its bits of the value
 abbrev pub is_so : WorldState → Variable → ValueTest → Option ℕ → Bool
 is_so w v test None = false
-is_so w v test (Some x) = list_any (is_of v) w.plan.out_links && (list_all (is_published w v x) w.plan.out_links && holds test x)
+is_so w v test (Some x) = list_any (is_of v) w.plan.out_links && (list_all (is_published w v x) w.plan.out_links && holds (number_of v) test x)
 
 -- an input by the process image, and an output as slaves publish it; its bits that aren't linked are 0
 abbrev pub is_tested : WorldState → ℕ → ValueTest → Option Variable → Bool

@@ -91,7 +91,9 @@ fn is_so(world: &World<'_>, variable: Variable, test: ValueTest) -> bool
 {
     match value_shown(world, variable) {
         Some(value) => {
-            has_link(world, variable) && is_output(world, variable, value) && test.holds(value)
+            has_link(world, variable)
+                && is_output(world, variable, value)
+                && test.holds(variable, value)
         }
         None => false,
     }

@@ -13,3 +13,5 @@ pub mod PowerOn
 pub mod ManagersGoByRuns
 -- what is read of a manager is what its run shows
 pub mod ReadsShowTheRun
+-- a slave of a type of real devices
+pub mod HardwareLaws

@@ -1,6 +1,8 @@
 -- Physical datagrams: bytes, registers and the managers over them.
 -- numbers of a list overwritten one by one, as a loop does it
 pub mod UpdatedAlong
+-- the registers of FMMUs that a slave lacks
+pub mod MissingFmmus
 -- what one byte of a window gives
 pub mod WindowBytes
 -- reads and writes byte by byte, and what they count
@@ -29,3 +31,7 @@ pub mod GovernorRuns
 pub mod Governor
 -- lower-numbered managers, or all of them
 pub mod AgainstAll
+-- writes that clear managers, and one that leaves a slave as it was
+pub mod RegisterResets
+-- a write over registers, of which those of missing FMMUs take none
+pub mod AroundFmmus

@@ -3,6 +3,7 @@
 -- judged by what another has become.
 use Rattle.std.specs.Prelude.{ℕ, ◌+◌, ◌*◌, ◌/◌, ◌≡◌, ◌==◌, ◌&&◌, List, [], ◌∷◌, Bool, false, if◌then◌else◌, Option, Some, None}
 use Rattle.ec_bits.specs.Bits.{overlay, zeros}
+use Rattle.ec_device.specs.declared.hardware.Hardware.{Hardware}
 use Rattle.ec_regs.specs.declared.fmmu.FmmuSettings.{FmmuSettings}
 use Rattle.ec_sync.specs.SyncManager.{SyncManager, empty_manager}
 use Rattle.ec_sync.specs.Governing.{governor}
@@ -36,9 +37,9 @@ bits_among all fs p bytes n start len =
 -- a physical datagram: every manager against all as they were
 abbrev pub PhysicalAgainstAll : Type 0
 PhysicalAgainstAll =
-    (reads writes : Bool) (w : Window) (ms : List SyncManager)
-    → physical_managers [] reads writes w 0 ms
-    ≡ each_from 0 (λ n m. if writes && is_configured w n then empty_manager (settings_written w n m) m.locked
+    (o : Option Hardware) (reads writes : Bool) (w : Window) (ms : List SyncManager)
+    → physical_managers o [] reads writes w 0 ms
+    ≡ each_from 0 (λ n m. if writes && is_configured o w n then empty_manager (settings_written o w n m) m.locked
     else manager_after reads writes (touches w) (touches w) (governs_among ms n) (value_among ms w n) m) ms
 
 -- a logical datagram: every manager against all as they were

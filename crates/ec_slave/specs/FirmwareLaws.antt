@@ -6,6 +6,7 @@ use Rattle.ec_al.specs.declared.state.State.{State}
 use Rattle.ec_al.specs.declared.state.State.TheVariants.{Init, PreOp, SafeOp, Op}
 use Rattle.ec_device.specs.declared.slave_type.Identity.{Identity}
 use Rattle.ec_device.specs.declared.slave_type.Pdo.{Pdo}
+use Rattle.ec_device.specs.Hardware.{has_firmware}
 use Rattle.ec_device.specs.Types.{SlaveKind, pdos_bits}
 use Rattle.ec_frame.specs.Datagram.{Datagram}
 use Rattle.ec_coe.specs.Transfers.{max_bits}
@@ -53,11 +54,11 @@ pub record IsGranted (s : SlaveState) (old new : State) : Type 0 where
   pub waits : s.al.requested ≡ true
   pub asked : requested_number (control_word s) ≡ state_number new
 
--- OP is reached only from SAFEOP, by a request for it. A firmware step leads from PREOP to SAFEOP only if managers 2 and 3 are
--- as the PDOs that are assigned want them. It leads from INIT to PREOP only if managers 0 and 1 are the type's mailboxes.
+-- By firmware OP is reached only from SAFEOP, by a request for it. A firmware step leads from PREOP to SAFEOP only if managers 2
+-- and 3 are as the PDOs that are assigned want them. It leads from INIT to PREOP only if managers 0 and 1 are the type's mailboxes.
 abbrev pub StatesAreEntered : Type 0
 StatesAreEntered =
-    (s : SlaveState) →
+    (s : SlaveState) → has_firmware s.kind.hardware ≡ true →
     ((served s).al.state ≡ Op → s.al.state ≢ Op → IsGranted s SafeOp Op)
     × ((served s).al.state ≡ SafeOp → s.al.state ≡ PreOp → ((checks_of s).outputs ≡ true) × ((checks_of s).inputs ≡ true))
     × ((served s).al.state ≡ PreOp → s.al.state ≡ Init → (checks_of s).mailbox ≡ true)

@@ -14,5 +14,5 @@ use Rattle.ec_slave.specs.State.{fmmus_of}
 pub record IsHeld (kind : SlaveKind) (identity : Identity) (memory : List ℕ) (managers : List SyncManager) (fmmus : List FmmuSettings) (sii : Sii) : Type 0 where
   pub room : length memory ≡ ram_end
   pub four : length managers ≡ 4
-  pub decoded : fmmus ≡ fmmus_of memory
+  pub decoded : fmmus ≡ fmmus_of kind.hardware memory
   pub image : sii.image ≡ image_of kind identity

@@ -1,7 +1,7 @@
 -- What the crates above may know of a slave: the words of it and of its parts, handed on, and laws for each thing that happens
 -- to it. Nothing above opens a definition of this crate; what is not said here can change without them.
 use Rattle.std.specs.Int.{from_bool, to_le_bytes, w32}
-use Rattle.std.specs.Prelude.{ℕ, zero, suc, ◌+◌, ◌-◌, ◌*◌, ◌%◌, ◌<◌, ◌≤◌, ◌≡◌, ◌≢◌, ◌==◌, ◌⊎◌, List, [], ◌∷◌, length, take, slice_index, slice_set, unwrap_or, Bool, true, false, if◌then◌else◌, Option, Some, None}
+use Rattle.std.specs.Prelude.{ℕ, zero, suc, ◌+◌, ◌-◌, ◌*◌, ◌%◌, ◌^◌, ◌<◌, ◌≤◌, ◌≡◌, ◌≢◌, ◌==◌, ◌⊎◌, List, [], ◌∷◌, length, take, slice_index, slice_set, unwrap_or, Bool, true, false, if◌then◌else◌, Option, Some, None}
 use Rattle.ec_bits.specs.Bits.{within}
 pub use Rattle.ec_frame.specs.Building.{bare_payload}
 pub use Rattle.ec_frame.specs.Datagram.{Datagram, adp_of, ado_of, IsDatagram}
@@ -12,6 +12,8 @@ pub use Rattle.ec_frame.specs.declared.command.Command.{Command}
 pub use Rattle.ec_frame.specs.declared.command.Command.TheVariants.{Nop, Lrd, Lwr, Lrw, Bwr, Fprd, Fpwr, Apwr, Fprw, Brd}
 pub use Rattle.ec_device.specs.Objects.{bits_assigned, pdo_at}
 pub use Rattle.ec_device.specs.Types.{SlaveKind, device_of, IsEntry, IsMailbox, ArePdos, first_output_index, first_input_index, IsPdo, IsWithinLimits, plain_kind, device_identity}
+pub use Rattle.ec_device.specs.declared.hardware.Hardware.{Hardware}
+pub use Rattle.ec_device.specs.Hardware.{AreNumbered, fmmu_count, has_firmware, manager_number, manager_place, other_name}
 pub use Rattle.ec_device.specs.declared.slave_type.Device.{Device}
 pub use Rattle.ec_device.specs.declared.slave_type.Entry.{Entry}
 pub use Rattle.ec_device.specs.declared.slave_type.Identity.{Identity}
@@ -19,11 +21,12 @@ pub use Rattle.ec_device.specs.declared.slave_type.Mailbox.{Mailbox}
 pub use Rattle.ec_device.specs.declared.slave_type.Pdo.{Pdo}
 pub use Rattle.ec_regs.specs.Fmmus.{fmmu_bytes, no_fmmu, fmmu_of}
 pub use Rattle.ec_regs.specs.Managers.{no_settings, manager_bytes, area_settings, outputs_control, inputs_control, is_mailbox, is_master_written, is_master_read, span, is_buffered, settings_of}
+pub use Rattle.ec_regs.specs.Names.{shown_fmmu, shown_manager}
 pub use Rattle.ec_regs.specs.Memory.{al_control, al_status, sii_control, sii_data, sync_managers, manager_start, ram_start, ram_end, is_stored, takes_writes}
 pub use Rattle.ec_regs.specs.Words.{al_flag, sii_error, sii_busy, al_word}
 pub use Rattle.ec_regs.specs.declared.fmmu.FmmuSettings.{FmmuSettings}
 pub use Rattle.ec_regs.specs.declared.manager.SyncManagerSettings.{SyncManagerSettings}
-pub use Rattle.ec_al.specs.Al.{Al, requesting, decided, answered, status_word}
+pub use Rattle.ec_al.specs.Al.{Al, requesting, decided, answered, copied, status_word}
 pub use Rattle.ec_al.specs.States.{state_number, code_number}
 pub use Rattle.ec_al.specs.Transitions.{answer, requested_by, acknowledges}
 pub use Rattle.ec_al.specs.declared.state.State.{State}
@@ -39,7 +42,7 @@ pub use Rattle.ec_sii.specs.declared.image.SiiImage.{SiiImage}
 pub use Rattle.ec_sync.specs.Buffer.{emptied_buffer, Buffer, Got, view_next, drafted, draft_next, publishing}
 pub use Rattle.ec_sync.specs.Governing.{governor, covers, in_first_buffer, governs}
 use Rattle.ec_sync.specs.Sound.{IsManager}
-pub use Rattle.ec_sync.specs.SyncManager.{SyncManager, no_manager, empty_manager, padded, ring_read, ring_written, buffer_length, app_put, may_app_put, may_app_get, app_got, is_enabled, message_in as sync_manager_message_in, may_write, may_read, visible, zeros_published}
+pub use Rattle.ec_sync.specs.SyncManager.{SyncManager, no_manager, empty_manager, padded, ring_read, ring_written, awaiting, buffer_length, app_put, may_app_put, may_app_get, app_got, is_enabled, message_in as sync_manager_message_in, may_write, may_read, visible, zeros_published}
 pub use Rattle.ec_fmmu.specs.Applied.{LogicalSpan, inside_span}
 pub use Rattle.ec_fmmu.specs.Areas.{Area, Spans}
 pub use Rattle.ec_fmmu.specs.Sets.{target, source, readers, writers}
@@ -69,9 +72,9 @@ pub use Rattle.ec_slave.specs.Logical.{meets_logically, span_of}
 pub use Rattle.ec_slave.specs.LogicalLaws.{Misses}
 pub use Rattle.ec_slave.specs.Managers.{reads_under, writes_under, is_ungoverned, is_read_by, is_written_by}
 pub use Rattle.ec_slave.specs.Meeting.{window_of, meets, slave_met, datagram_met, passes, Passed, IsPassed}
-pub use Rattle.ec_slave.specs.Physical.{Window, touches, byte_at, ram_byte, may_read_byte, may_write_byte, byte_read, updated, memory_written, is_configured, settings_written, physical_value, physical_manager, physical_managers, physical_after, some_byte_read, is_written, some_byte_written}
+pub use Rattle.ec_slave.specs.Physical.{Window, touches, byte_at, ram_byte, may_read_byte, may_write_byte, byte_read, updated, memory_written, is_missing, keeps, as_shown, numbered_byte, is_configured, settings_written, physical_value, physical_manager, physical_managers, physical_after, some_byte_read, is_written, some_byte_written}
 pub use Rattle.ec_slave.specs.Roles.{role_of, adp_after, is_reading, is_writing, is_joining}
-pub use Rattle.ec_slave.specs.Serving.{with_al, request_decided, read_finished, is_served, request_in, answer_to, bytes_to, message_served, served, dictionary_of, is_preop, has_mailbox, takes_reply, request_for, reply_counter, is_init, unlocked_empty, managers_entered}
+pub use Rattle.ec_slave.specs.Serving.{with_al, request_decided, read_finished, is_served, request_in, answer_to, bytes_to, message_served, served, dictionary_of, is_preop, has_mailbox, takes_reply, request_for, reply_counter, is_init, unlocked_empty, managers_entered, al_decided, is_awaiting, outputs_awaited, has_outputs}
 use Rattle.ec_slave.specs.Sound.{IsSlave}
 pub use Rattle.ec_slave.specs.State.{SlaveState, manager_at, station_of, power_on, fmmus, Met, with_answer, with_memory, fmmus_of}
 use Rattle.ec_al.specs.Al as al
@@ -97,10 +100,11 @@ SlavesAreSwitchedOn = (kind : SlaveKind) (identity : Identity) → IsSwitchedOn 
 
 -- ---- a firmware step
 
--- what a step settles: no request waits, and the SII isn't busy
+-- what a step settles: no request waits, one for OP aside while outputs are awaited, and the SII isn't busy
 pub record Settles (s t : SlaveState) : Type 0 where
-  pub al : t.al ≡ al.stepped s.al (control_word s) (checks_of s)
-  pub no_request : t.al.requested ≡ false
+  pub al : is_awaiting s.kind.hardware s ≡ false → t.al ≡ (if s.al.requested then al_decided s.kind.hardware s else s.al)
+  pub no_request : is_awaiting s.kind.hardware s ≡ false → t.al.requested ≡ false
+  pub awaits : is_awaiting s.kind.hardware s ≡ true → t.al ≡ s.al
   pub sii : t.sii ≡ port.stepped s.sii
   pub idle : t.sii.busy ≡ false
   pub image : t.sii.image ≡ s.sii.image
@@ -112,13 +116,23 @@ StepsSettle = (s : SlaveState) → Settles s (served s)
 abbrev pub StepsHaveThreeParts : Type 0
 StepsHaveThreeParts = (s : SlaveState) → served s ≡ message_served (read_finished (request_decided s))
 
--- A request that waits is decided, by the control word as it now stands; without one nothing changes.
+-- A request that waits is decided, by the control word as it now stands; without one, and while outputs are awaited, nothing
+-- changes.
 pub record IsDecided (s t : SlaveState) : Type 0 where
   pub rests : s.al.requested ≡ false → t ≡ s
-  pub decides : s.al.requested ≡ true → t ≡ with_al s (al.decided s.al (control_word s) (checks_of s))
+  pub awaits : is_awaiting s.kind.hardware s ≡ true → t ≡ s
+  pub decides : s.al.requested ≡ true → is_awaiting s.kind.hardware s ≡ false → t ≡ with_al s (al_decided s.kind.hardware s)
 
 abbrev pub RequestsAreDecided : Type 0
 RequestsAreDecided = (s : SlaveState) → IsDecided s (request_decided s)
+
+-- A slave of a type that says nothing of real devices decides each request at once, by its checks.
+pub record DecidesAtOnce (s : SlaveState) : Type 0 where
+  pub decides : al_decided s.kind.hardware s ≡ al.decided s.al (control_word s) (checks_of s)
+  pub at_once : is_awaiting s.kind.hardware s ≡ false
+
+abbrev pub PlainTypesDecide : Type 0
+PlainTypesDecide = (s : SlaveState) → s.kind.hardware ≡ None → DecidesAtOnce s
 
 -- what the checks look at: managers 0 and 1, and managers 2 and 3 beside the PDOs that are assigned
 pub record AreChecks (s : SlaveState) : Type 0 where
@@ -149,6 +163,7 @@ pub record KeepsBesideMessages (s t : SlaveState) : Type 0 where
   pub count : length t.managers ≡ length s.managers
   pub settings : (n : ℕ) → (manager_at t.managers n).settings ≡ (manager_at s.managers n).settings
   pub locked : (n : ℕ) → (manager_at t.managers n).locked ≡ (manager_at s.managers n).locked
+  pub awaited : (n : ℕ) → (manager_at t.managers n).awaited ≡ (manager_at s.managers n).awaited
   pub others : (n : ℕ) → 2 ≤ n → manager_at t.managers n ≡ manager_at s.managers n
   pub out_slots : length t.outs.slots ≡ length s.outs.slots
   pub in_slots : length t.ins.slots ≡ length s.ins.slots
@@ -223,13 +238,16 @@ FewInputs = (s : SlaveState) → put_size s ≤ 2730
 
 -- ---- any datagram
 
--- what no datagram changes: what a slave is, its state, its assignments, and how much there is of memory and managers
+-- what no datagram changes: what a slave is, its state, its assignments, how much there is of memory and managers, and the
+-- registers of FMMUs that it lacks; and it makes no manager await a value
 pub record KeepsInside (s t : SlaveState) : Type 0 where
   pub kind : t.kind ≡ s.kind
   pub identity : t.identity ≡ s.identity
   pub room : length t.memory ≡ length s.memory
   pub count : length t.managers ≡ length s.managers
   pub locked : (n : ℕ) → (manager_at t.managers n).locked ≡ (manager_at s.managers n).locked
+  pub awaited : (n : ℕ) → (manager_at s.managers n).awaited ≡ false → (manager_at t.managers n).awaited ≡ false
+  pub missing : (a : ℕ) → is_missing s.kind.hardware a ≡ true → slice_index t.memory a ≡ slice_index s.memory a
   pub state : t.al.state ≡ s.al.state
   pub image : t.sii.image ≡ s.sii.image
   pub outs : t.outs ≡ s.outs
@@ -334,18 +352,19 @@ OutputsArePublished = (s : SlaveState) (v : List ℕ) → PublishesOutputs s v
 
 -- ---- registers
 
--- manager n after a write of registers: new settings empty it, and leave its lock
-abbrev pub set_by : Window → ℕ → SyncManager → SyncManager
-set_by w n m = if is_configured w n then empty_manager (settings_written w n m) m.locked else m
+-- the manager at place n after a write of registers: new settings empty it, and leave its lock
+abbrev pub set_by : Option Hardware → Window → ℕ → SyncManager → SyncManager
+set_by o w n m = if is_configured o w n then empty_manager (settings_written o w n m) m.locked else m
 
 -- what a write of registers leaves
 pub record Wrote (w : Window) (s t : SlaveState) : Type 0 where
   pub kind : t.kind ≡ s.kind
   pub room : length t.memory ≡ length s.memory
   pub untouched : (a : ℕ) → a < length s.memory → touches w a ≡ false → slice_index t.memory a ≡ slice_index s.memory a
-  pub taken : (a : ℕ) → a < length s.memory → a < ram_start → touches w a ≡ true → is_stored a ≡ true → within sync_managers 32 a ≡ false → slice_index t.memory a ≡ slice_index w.bytes (a - w.from)
+  pub missing : (a : ℕ) → is_missing s.kind.hardware a ≡ true → slice_index t.memory a ≡ slice_index s.memory a
+  pub taken : (a : ℕ) → a < length s.memory → a < ram_start → touches w a ≡ true → keeps s.kind.hardware a ≡ true → within sync_managers 32 a ≡ false → slice_index t.memory a ≡ slice_index w.bytes (a - w.from)
   pub count : length t.managers ≡ length s.managers
-  pub managers : (n : ℕ) → n < length s.managers → manager_at t.managers n ≡ set_by w n (manager_at s.managers n)
+  pub managers : (n : ℕ) → n < length s.managers → manager_at t.managers n ≡ set_by s.kind.hardware w n (manager_at s.managers n)
   pub al : t.al ≡ (if touches w al_control then al.requesting s.al else s.al)
   pub sii : t.sii ≡ port.written s.sii w.from w.bytes
   pub link : t.link ≡ dl_written s.link w.from w.bytes
@@ -361,7 +380,21 @@ RegistersAreRead = (s : SlaveState) (w : Window) → w.from + length w.bytes ≤
 
 -- a write that touches no byte of a manager's eight sets nothing of it
 abbrev pub ManagersAside : Type 0
-ManagersAside = (w : Window) (n : ℕ) → (w.from + length w.bytes ≤ manager_start n) ⊎ (manager_start n + 8 ≤ w.from) → is_configured w n ≡ false
+ManagersAside =
+    (o : Option Hardware) (w : Window) (n : ℕ) → let start : ℕ = manager_start (manager_number o n) in
+    (w.from + length w.bytes ≤ start) ⊎ (start + 8 ≤ w.from) → is_configured o w n ≡ false
+
+-- Zeros over the registers of all managers clear each of them, whatever its number.
+abbrev pub ManagersAreCleared : Type 0
+ManagersAreCleared =
+    (o : Option Hardware) (bytes : List ℕ) (n : ℕ) (m : SyncManager) → AreNumbered o → 32 ≤ length bytes → ((k : ℕ) → k < length bytes → slice_index bytes k ≡ 0) → n < 4
+    → set_by o (record { from = sync_managers; bytes = bytes }) n m ≡ empty_manager no_settings m.locked
+
+-- A write of 0x0500, by which a master takes the SII or leaves it to the device, changes nothing of a slave that isn't full.
+abbrev pub SiiConfigurationIsLeft : Type 0
+SiiConfigurationIsLeft =
+    (s : SlaveState) (x : ℕ) → s.link.visible ≡ false → s.sii.address < 2 ^ 32
+    → physical_after s false true (record { from = 0x0500; bytes = x ∷ [] }) ≡ s
 
 -- every register may be read, and written as its row in the table of registers says
 pub record AreOpen (ms : List SyncManager) (touched : ℕ → Bool) (a : ℕ) : Type 0 where
@@ -394,13 +427,13 @@ abbrev pub RamIsGoverned : Type 0
 RamIsGoverned = (s : SlaveState) (a : ℕ) → ram_start ≤ a → a < ram_end → IsRam s a
 
 -- one manager under a read, or under a write that sets nothing of it: it is read or written if the access gets at it and may be
-pub record IsAccessed (lower : List SyncManager) (w : Window) (n : ℕ) (m : SyncManager) : Type 0 where
-  pub read : physical_manager lower true false w n m ≡ (if is_read_by (touches w) (is_ungoverned lower) m then ring_read m else m)
-  pub written : is_configured w n ≡ false
-      → physical_manager lower false true w n m ≡ (if is_written_by (touches w) (is_ungoverned lower) m then ring_written m (physical_value lower w m.settings.start m.settings.length) else m)
+pub record IsAccessed (o : Option Hardware) (lower : List SyncManager) (w : Window) (n : ℕ) (m : SyncManager) : Type 0 where
+  pub read : physical_manager o lower true false w n m ≡ (if is_read_by (touches w) (is_ungoverned lower) m then ring_read m else m)
+  pub written : is_configured o w n ≡ false
+      → physical_manager o lower false true w n m ≡ (if is_written_by (touches w) (is_ungoverned lower) m then ring_written m (physical_value lower w m.settings.start m.settings.length) else m)
 
 abbrev pub ManagersAreAccessed : Type 0
-ManagersAreAccessed = (lower : List SyncManager) (w : Window) (n : ℕ) (m : SyncManager) → IsAccessed lower w n m
+ManagersAreAccessed = (o : Option Hardware) (lower : List SyncManager) (w : Window) (n : ℕ) (m : SyncManager) → IsAccessed o lower w n m
 
 -- a write over exactly the bytes of a manager that no lower one reaches into brings it its data
 abbrev pub WholeValuesAreTheData : Type 0
@@ -408,11 +441,11 @@ WholeValuesAreTheData = (w : Window) → physical_value [] w w.from (length w.by
 
 -- a read changes managers alone; a write the memory, the managers, the AL request, the SII port and the data link registers
 pub record AccessLeaves (s : SlaveState) (w : Window) : Type 0 where
-  pub read : physical_after s true false w ≡ record s { managers = physical_managers [] true false w 0 s.managers }
+  pub read : physical_after s true false w ≡ record s { managers = physical_managers s.kind.hardware [] true false w 0 s.managers }
   pub written : physical_after s false true w
       ≡ record s {
-        memory = memory_written s.managers w s.memory;
-        managers = physical_managers [] false true w 0 s.managers;
+        memory = memory_written s.kind.hardware s.managers w s.memory;
+        managers = physical_managers s.kind.hardware [] false true w 0 s.managers;
         al = if touches w al_control then al.requesting s.al else s.al;
         sii = port.written s.sii w.from w.bytes;
         link = dl_written s.link w.from w.bytes;

@@ -1,5 +1,6 @@
 -- Laws of the definitions of this crate.
-use Rattle.std.specs.Prelude.{ℕ, ◌+◌, ◌-◌, ◌%◌, ◌≡◌, ◌≢◌, ◌<◌, ◌⊎◌, List, length, slice_index, Bool, true, false, if◌then◌else◌, bit_or}
+use Rattle.std.specs.Prelude.{ℕ, ◌+◌, ◌-◌, ◌%◌, ◌≡◌, ◌≢◌, ◌<◌, ◌⊎◌, List, length, slice_index, Bool, true, false, if◌then◌else◌, bit_or, Option}
+use Rattle.ec_device.specs.declared.hardware.Hardware.{Hardware}
 use Rattle.ec_frame.specs.declared.command.Command.TheVariants.{Aprd, Apwr, Aprw, Fprd, Fpwr, Fprw}
 use Rattle.ec_frame.specs.Datagram.{Datagram, IsDatagram, adp_of, ado_of}
 use Rattle.ec_frame.specs.Fields.{with_adp}
@@ -7,7 +8,7 @@ use Rattle.ec_slave.specs.declared.role.Role.{Role}
 use Rattle.ec_slave.specs.declared.role.Role.TheVariants.{Nothing, Read, Write, ReadWrite, OrRead, OrReadWrite}
 use Rattle.ec_slave.specs.State.{SlaveState, station_of}
 use Rattle.ec_sync.specs.SyncManager.{SyncManager}
-use Rattle.ec_slave.specs.Physical.{Window, touches, byte_at, byte_read, is_stored_at, may_read_byte, memory_written, updated, some_byte_read, is_written, physical_met}
+use Rattle.ec_slave.specs.Physical.{Window, touches, byte_at, byte_read, is_missing, is_stored_at, may_read_byte, memory_written, updated, some_byte_read, is_written, physical_met}
 use Rattle.ec_slave.specs.Meeting.{meets, slave_met, datagram_met}
 use Rattle.ec_slave.specs.Sound.{IsSlave}
 
@@ -44,15 +45,16 @@ CountsWhatItChanges =
     → (slave_met s d ≡ s) × ((datagram_met s d).data_bytes ≡ d.data_bytes)
 
 -- the byte of address a after a write: the data byte that belongs to it if the memory itself keeps it; else what it was
-pub record IsWrittenAt (ms : List SyncManager) (w : Window) (memory : List ℕ) (a : ℕ) : Type 0 where
-  pub taken : touches w a ≡ true → is_stored_at ms a ≡ true → slice_index (memory_written ms w memory) a ≡ slice_index w.bytes (a - w.from)
-  pub refused : is_stored_at ms a ≡ false → slice_index (memory_written ms w memory) a ≡ slice_index memory a
-  pub untouched : touches w a ≡ false → slice_index (memory_written ms w memory) a ≡ slice_index memory a
+pub record IsWrittenAt (o : Option Hardware) (ms : List SyncManager) (w : Window) (memory : List ℕ) (a : ℕ) : Type 0 where
+  pub taken : touches w a ≡ true → is_missing o a ≡ false → is_stored_at ms a ≡ true → slice_index (memory_written o ms w memory) a ≡ slice_index w.bytes (a - w.from)
+  pub missing : is_missing o a ≡ true → slice_index (memory_written o ms w memory) a ≡ slice_index memory a
+  pub refused : is_stored_at ms a ≡ false → slice_index (memory_written o ms w memory) a ≡ slice_index memory a
+  pub untouched : touches w a ≡ false → slice_index (memory_written o ms w memory) a ≡ slice_index memory a
 
 abbrev pub WritesByByte : Type 0
 WritesByByte =
-    (ms : List SyncManager) (w : Window) (memory : List ℕ)
-    → (length (memory_written ms w memory) ≡ length memory) × ((a : ℕ) → a < length memory → IsWrittenAt ms w memory a)
+    (o : Option Hardware) (ms : List SyncManager) (w : Window) (memory : List ℕ)
+    → (length (memory_written o ms w memory) ≡ length memory) × ((a : ℕ) → a < length memory → IsWrittenAt o ms w memory a)
 
 -- data byte k after a read: what its address reads, joined by OR in a broadcast, or what it was if it may not be read
 pub record IsReadAt (s : SlaveState) (joining : Bool) (w : Window) (k : ℕ) : Type 0 where

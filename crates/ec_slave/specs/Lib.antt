@@ -22,6 +22,8 @@ pub mod LogicalLaws
 pub mod FirmwareLaws
 pub mod Steps
 pub mod Showing
+-- what a slave of a type of real devices does that others don't
+pub mod HardwareLaws
 -- what the crates above may know
 pub mod Interface
 -- Private: the words of private code; no public contract rests on them.

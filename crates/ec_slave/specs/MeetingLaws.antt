@@ -1,7 +1,7 @@
 -- Laws of a whole meeting: what a slave's registers, managers and bits are after a datagram.
 use Rattle.std.specs.Prelude.{ℕ, ◌+◌, ◌-◌, ◌*◌, ◌/◌, ◌<◌, ◌≤◌, ◌≡◌, ◌&&◌, ◌||◌, length, Bool, true, false, if◌then◌else◌, slice_index, unwrap_or}
 use Rattle.ec_bits.specs.Bits.{bit, within}
-use Rattle.ec_regs.specs.Memory.{sii_control, sync_managers, ram_start, is_stored}
+use Rattle.ec_regs.specs.Memory.{sii_control, sync_managers, ram_start}
 use Rattle.ec_frame.specs.declared.command.Command.TheVariants.{Lrd, Lwr, Lrw}
 use Rattle.ec_frame.specs.Datagram.{Datagram, adp_of, ado_of}
 use Rattle.ec_sync.specs.SyncManager.{SyncManager, empty_manager, visible}
@@ -12,7 +12,7 @@ use Rattle.ec_slave.specs.State.{SlaveState, manager_at, station_of, fmmus}
 use Rattle.ec_slave.specs.Sound.{IsSlave}
 use Rattle.ec_slave.specs.Managers.{is_written_by}
 use Rattle.ec_slave.specs.AgainstAll.{governs_among}
-use Rattle.ec_slave.specs.Physical.{byte_at, touches, is_configured, settings_written}
+use Rattle.ec_slave.specs.Physical.{byte_at, touches, is_configured, keeps, settings_written}
 use Rattle.ec_slave.specs.Logical.{brought, only_if, span_of, plain_bit, read_bit}
 use Rattle.ec_slave.specs.Meeting.{window_of, slave_met, datagram_met}
 
@@ -20,12 +20,13 @@ use Rattle.ec_slave.specs.Meeting.{window_of, slave_met, datagram_met}
 abbrev pub writes_at : SlaveState → Datagram → Bool
 writes_at s d = is_writing (role_of d.command (adp_of d) (station_of s))
 
--- A register outside the sync managers and the SII port reads the byte that a writing datagram brings, if it is stored, or a data
--- link register of a full slave that keeps writes; else it reads what it read before.
+-- A register outside the sync managers and the SII port reads the byte that a writing datagram brings, if it is stored and no
+-- register of an FMMU that the slave lacks, or if it is a data link register of a full slave that keeps writes; else it reads what
+-- it read before.
 abbrev pub RegistersAfterWrite : Type 0
 RegistersAfterWrite =
     (s : SlaveState) (d : Datagram) (a : ℕ) → IsSlave s → writes_at s d ≡ true → a < sync_managers → within sii_control 6 a ≡ false
-    → byte_at (slave_met s d) a ≡ (if touches (window_of d) a && (is_stored a || dl_stores s.link a) then slice_index d.data_bytes (a - ado_of d) else byte_at s a)
+    → byte_at (slave_met s d) a ≡ (if touches (window_of d) a && (keeps s.kind.hardware a || dl_stores s.link a) then slice_index d.data_bytes (a - ado_of d) else byte_at s a)
 
 -- A writing datagram over registers alone: each manager of which it writes a setting has the settings that its bytes then
 -- say, is empty, and is locked or not as it was; every other manager is as it was.
@@ -34,7 +35,7 @@ ManagersAfterWrite =
     (s : SlaveState) (d : Datagram) (n : ℕ) → n < length s.managers → writes_at s d ≡ true → ado_of d + length d.data_bytes ≤ ram_start
     → let m : SyncManager = manager_at s.managers n in
     manager_at (slave_met s d).managers n
-    ≡ (if is_configured (window_of d) n then empty_manager (settings_written (window_of d) n m) m.locked else m)
+    ≡ (if is_configured s.kind.hardware (window_of d) n then empty_manager (settings_written s.kind.hardware (window_of d) n m) m.locked else m)
 
 -- A logical datagram moves bits. A data bit becomes what the read set shows for it, if it may be read. A bit of the memory
 -- itself becomes what the write set brings it, if no manager governs it. All other bits are as they were.

@@ -1,17 +1,21 @@
 -- A firmware step of a slave: the AL request, the SII read and one mailbox message, in this order (ETG.1000.6, "EtherCAT state
 -- machine", "Slave information interface" and "Mailbox"; the step and its order are the profile of the simulated slaves).
-use Rattle.std.specs.Prelude.{ℕ, ◌+◌, ◌%◌, ◌&&◌, not, List, map, slice_set, Bool, true, false, if◌then◌else◌, nat_lt, Option, Some, None, is_some, is_none, option_map, option_and_then}
-use Rattle.ec_sync.specs.SyncManager.{SyncManager, empty_manager, is_enabled, message_in, message_taken, message_put, zeros_published}
+use Rattle.std.specs.Prelude.{ℕ, ◌+◌, ◌%◌, ◌==◌, ◌&&◌, not, List, map, slice_set, Bool, true, false, if◌then◌else◌, nat_lt, Option, Some, None, is_some, is_none, option_map, option_and_then}
+use Rattle.ec_device.specs.declared.hardware.Hardware.{Hardware}
+use Rattle.ec_device.specs.Objects.{bits_assigned}
+use Rattle.ec_sync.specs.SyncManager.{SyncManager, awaiting, empty_manager, is_enabled, message_in, message_taken, message_put, zeros_published}
 use Rattle.ec_regs.specs.Managers.{is_mailbox, is_master_read}
 use Rattle.ec_al.specs.declared.state.State.{State}
 use Rattle.ec_al.specs.declared.state.State.TheVariants.{Init, PreOp, SafeOp, Op}
-use Rattle.ec_al.specs.Al.{Al, decided}
+use Rattle.ec_al.specs.Al.{Al, copied, decided}
+use Rattle.ec_al.specs.States.{state_number}
+use Rattle.ec_al.specs.Transitions.{requested_number}
 use Rattle.ec_sii.specs.Port as port
 use Rattle.ec_coe.specs.declared.message.Message.{Message}
 use Rattle.ec_coe.specs.declared.message.Service.{Service}
 use Rattle.ec_coe.specs.declared.message.Service.TheVariants.{Request, Response, Other}
 use Rattle.ec_coe.specs.Messages.{message_read, message_length}
-use Rattle.ec_coe.specs.Objects.{Dictionary}
+use Rattle.ec_coe.specs.Objects.{Dictionary, assigned}
 use Rattle.ec_coe.specs.Answers.{Answer, answered}
 use Rattle.ec_coe.specs.ReplyBytes.{reply_bytes}
 use Rattle.ec_coe.specs.Refusals.{refusal_bytes}
@@ -53,16 +57,50 @@ managers_entered old new ms =
 abbrev pub replies_entered : State → State → ℕ → ℕ
 replies_entered old new replies = if is_preop new && is_init old then 0 else replies
 
+-- whether output bits are assigned
+abbrev pub has_outputs : SlaveState → Bool
+has_outputs s = nat_lt 0 (bits_assigned s.kind.outputs (assigned s.outs))
+
+-- Firmware of real devices wants its outputs before OP (what their firmware stacks do; ETG.1000.6 leaves it to the device): as
+-- SAFEOP is entered, manager 2 awaits them, if any are assigned.
+abbrev pub outputs_awaited : Option Hardware → Bool → State → State → List SyncManager → List SyncManager
+outputs_awaited None outputs old new ms = ms
+outputs_awaited (Some h) outputs old new ms =
+    if is_safeop new && not (is_safeop old) then slice_set ms 2 (awaiting (manager_at ms 2) (h.has_firmware && outputs)) else ms
+
+-- the same, as what manager 2 awaits from now on; none if that stays as it is
+abbrev pub awaited_by : Option Hardware → Bool → State → State → Option Bool
+awaited_by None outputs old new = None
+awaited_by (Some h) outputs old new = if is_safeop new && not (is_safeop old) then Some (h.has_firmware && outputs) else None
+
+abbrev pub awaited_if : Option Bool → SyncManager → SyncManager
+awaited_if None m = m
+awaited_if (Some b) m = awaiting m b
+
 abbrev pub with_al : SlaveState → Al → SlaveState
 with_al s a = record s {
   al = a;
-  managers = managers_entered s.al.state a.state s.managers;
+  managers = outputs_awaited s.kind.hardware (has_outputs s) s.al.state a.state (managers_entered s.al.state a.state s.managers);
   replies = replies_entered s.al.state a.state s.replies;
 }
 
+-- Such firmware doesn't decide a request for OP in SAFEOP while outputs are awaited.
+abbrev pub awaits_by : Option Hardware → State → ℕ → Bool → Bool
+awaits_by None state control awaited = false
+awaits_by (Some h) state control awaited = h.has_firmware && (is_safeop state && ((requested_number control == state_number Op) && awaited))
+
+abbrev pub is_awaiting : Option Hardware → SlaveState → Bool
+is_awaiting o s = awaits_by o s.al.state (control_word s) (manager_at s.managers 2).awaited
+
+-- the AL state machine after a decision: by the checks, or copied in a device without firmware
+abbrev pub al_decided : Option Hardware → SlaveState → Al
+al_decided None s = decided s.al (control_word s) (checks_of s)
+al_decided (Some h) s = if h.has_firmware then decided s.al (control_word s) (checks_of s) else copied s.al (control_word s)
+
 -- the latest request is decided, by the control word as it now stands
 unfoldable pub request_decided : SlaveState → SlaveState
-request_decided s = if s.al.requested then with_al s (decided s.al (control_word s) (checks_of s)) else s
+request_decided s =
+    if s.al.requested then (if is_awaiting s.kind.hardware s then s else with_al s (al_decided s.kind.hardware s)) else s
 
 -- ---- the SII read
 

@@ -1,11 +1,13 @@
 -- What a slave is at an instant (ETG.1000.3 and .5; the memory is this project's profile).
-use Rattle.std.specs.Prelude.{ℕ, ◌+◌, ◌*◌, ◌%◌, List, [], ◌∷◌, map, slice_index}
+use Rattle.std.specs.Prelude.{ℕ, ◌+◌, ◌*◌, ◌%◌, List, [], ◌∷◌, map, slice_index, Option}
 use Rattle.ec_bits.specs.Bits.{zeros}
+use Rattle.ec_device.specs.declared.hardware.Hardware.{Hardware}
 use Rattle.ec_device.specs.declared.slave_type.Identity.{Identity}
 use Rattle.ec_regs.specs.declared.fmmu.FmmuSettings.{FmmuSettings}
 use Rattle.ec_device.specs.Types.{SlaveKind}
 use Rattle.ec_regs.specs.Memory.{station_address, fmmu_start, ram_end}
 use Rattle.ec_regs.specs.Fmmus.{fmmu_of}
+use Rattle.ec_regs.specs.Names.{shown_fmmu}
 use Rattle.ec_frame.specs.Datagram.{Datagram}
 use Rattle.ec_sync.specs.SyncManager.{SyncManager, no_manager}
 pub use Rattle.ec_exchange.specs.Values.{manager_at}
@@ -23,7 +25,8 @@ pub record SlaveState : Type 0 where
   -- One byte for each address: below `ram_start` what datagrams stored, the sync managers' registers and the SII port
   -- aside; at `ram_start` and above, the RAM as it is if no manager governs it.
   pub memory : List ℕ
-  -- the four sync managers
+  -- the four sync managers in the order of their roles: mailbox out, mailbox in, outputs, inputs. Only the registers go by
+  -- their numbers, and by the addresses that a type's outputs have there.
   pub managers : List SyncManager
   -- the AL state machine
   pub al : Al
@@ -45,12 +48,12 @@ with_memory s memory managers = record s { memory = memory; managers = managers 
 abbrev pub station_of : SlaveState → ℕ
 station_of s = slice_index s.memory station_address + 256 * slice_index s.memory (station_address + 1)
 
--- the four FMMUs, as their registers say
-abbrev pub fmmus_of : List ℕ → List FmmuSettings
-fmmus_of memory = map (λ n. fmmu_of (λ k. slice_index memory (fmmu_start n + k))) (0 ∷ 1 ∷ 2 ∷ 3 ∷ [])
+-- the four FMMUs, as their registers say; one that the slave lacks has registers of zeros
+abbrev pub fmmus_of : Option Hardware → List ℕ → List FmmuSettings
+fmmus_of o memory = map (λ n. shown_fmmu o (fmmu_of (λ k. slice_index memory (fmmu_start n + k)))) (0 ∷ 1 ∷ 2 ∷ 3 ∷ [])
 
 abbrev pub fmmus : SlaveState → List FmmuSettings
-fmmus s = fmmus_of s.memory
+fmmus s = fmmus_of s.kind.hardware s.memory
 
 -- how many addresses there are: the RAM ends there
 unfoldable pub memory_length : ℕ

@@ -2,7 +2,8 @@
 -- specs/Runs.antt); nothing else happens to one. This file says which steps these are.
 use Rattle.std.specs.Prelude.{ℕ, zero, suc, ◌+◌, ◌==◌, ◌&&◌, not, ◌≡◌, ◌≤◌, List, [], ◌∷◌, ◌++◌, length, Bool, true, false, if◌then◌else◌, Option, Some, None, is_some, unwrap_or}
 use Rattle.std.specs.List.{All}
-use Rattle.ec_al.specs.Al.{decided, is_operational}
+use Rattle.ec_device.specs.declared.hardware.Hardware.{Hardware}
+use Rattle.ec_al.specs.Al.{is_operational}
 use Rattle.ec_al.specs.declared.state.State.{State}
 use Rattle.ec_coe.specs.declared.message.Message.{Message}
 use Rattle.ec_frame.specs.declared.command.Command.{Command}
@@ -10,7 +11,7 @@ use Rattle.ec_frame.specs.declared.command.Command.TheVariants.{Nop, Aprd, Apwr,
 use Rattle.ec_frame.specs.Datagram.{Datagram, adp_of}
 use Rattle.ec_fmmu.specs.Applied.{touched_by_reading, touched_by_writing}
 use Rattle.ec_sync.specs.SyncManager.{SyncManager, message_taken}
-use Rattle.ec_sync.specs.Runs.{Operation, Configure, Lock, Empty, PublishZeros, RingWrite, RingRead, AppPut, AppGet, MessageTake, MessagePut, step, run}
+use Rattle.ec_sync.specs.Runs.{Operation, Configure, Lock, Empty, PublishZeros, Await, RingWrite, RingRead, AppPut, AppGet, MessageTake, MessagePut, step, run}
 use Rattle.ec_slave.specs.Roles.{role_of, is_reading, is_writing}
 use Rattle.ec_slave.specs.State.{SlaveState, manager_at, fmmus, power_on, station_of}
 use Rattle.ec_slave.specs.Managers.{gets_at, is_written_by, manager_after}
@@ -19,8 +20,7 @@ use Rattle.ec_slave.specs.Logical.{span_of}
 use Rattle.ec_slave.specs.AgainstAll.{governs_among, value_among, bits_among}
 use Rattle.ec_slave.specs.Meeting.{slave_met, window_of}
 use Rattle.ec_slave.specs.Application.{input_put, output_got, output_taken, with_manager}
-use Rattle.ec_slave.specs.Checking.{checks_of, control_word}
-use Rattle.ec_slave.specs.Serving.{served, is_init, is_preop, is_safeop, request_decided, read_finished, is_served, request_in, refusal_in, bytes_to}
+use Rattle.ec_slave.specs.Serving.{served, is_init, is_preop, is_safeop, al_decided, has_outputs, is_awaiting, request_decided, read_finished, is_served, request_in, refusal_in, bytes_to}
 use Rattle.ec_slave.specs.Faulting.{faulted}
 
 -- One manager after an access is as after one step: what counts as reaching its first and its last byte is that the
@@ -86,7 +86,7 @@ abbrev pub physical_steps : SlaveState → Datagram → ℕ → List Operation
 physical_steps s d n =
     let role = role_of d.command (adp_of d) (station_of s) in
     let w = window_of d in
-    said_from 0 (λ k m. if is_writing role && is_configured w k then Configure (settings_written w k m) ∷ []
+    said_from 0 (λ k m. if is_writing role && is_configured s.kind.hardware w k then Configure (settings_written s.kind.hardware w k m) ∷ []
     else access_steps (is_reading role) (is_writing role) (touches w) (touches w) (governs_among s.managers k) (value_among s.managers w k) m) s.managers n
 
 -- a logical one likewise, by the bits that FMMUs lead it to
@@ -112,15 +112,26 @@ steps_met Lrw s d n = if s.kind.lrw then logical_steps s true true d n else []
 steps_met Armw s d n = physical_steps s d n
 steps_met Frmw s d n = physical_steps s d n
 
--- one state is left for another: INIT unlocks and empties all managers, SAFEOP behind PREOP publishes zeros in manager 3
+-- one state is left for another: INIT unlocks and empties all managers, SAFEOP behind PREOP publishes zeros in manager 3, and
+-- in manager 2 of a type of real devices it awaits outputs
 abbrev pub steps_entered : State → State → List SyncManager → ℕ → List Operation
 steps_entered old new ms n =
     if is_init new && not (is_init old) then to_each (Lock false ∷ Empty ∷ []) ms n
     else (if is_safeop new && is_preop old then to_one 3 (PublishZeros ∷ []) ms n else [])
 
+abbrev pub steps_awaited : Option Hardware → Bool → State → State → List SyncManager → ℕ → List Operation
+steps_awaited None outputs old new ms n = []
+steps_awaited (Some h) outputs old new ms n =
+    if is_safeop new && not (is_safeop old) then to_one 2 (Await (h.has_firmware && outputs) ∷ []) ms n else []
+
+-- what a decision that leads to a state does
+abbrev pub steps_to : SlaveState → State → ℕ → List Operation
+steps_to s new n =
+    steps_entered s.al.state new s.managers n ++ steps_awaited s.kind.hardware (has_outputs s) s.al.state new s.managers n
+
 abbrev pub steps_decided : SlaveState → ℕ → List Operation
 steps_decided s n =
-    if s.al.requested then steps_entered s.al.state (decided s.al (control_word s) (checks_of s)).state s.managers n else []
+    if s.al.requested then (if is_awaiting s.kind.hardware s then [] else steps_to s (al_decided s.kind.hardware s).state n) else []
 
 -- the bytes that a message is answered by, or refused
 abbrev pub bytes_back : SlaveState → Option (List ℕ) → Option Message → Option (List ℕ)
@@ -164,6 +175,7 @@ abbrev pub is_of_firmware : Operation → Bool
 is_of_firmware (Lock locked) = true
 is_of_firmware Empty = true
 is_of_firmware PublishZeros = true
+is_of_firmware (Await awaited) = true
 is_of_firmware MessageTake = true
 is_of_firmware (MessagePut message) = true
 is_of_firmware o = false

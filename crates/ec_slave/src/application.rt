@@ -91,7 +91,7 @@ impl Slave {
         ensures { self.new ≡ power_on self.old.kind self.old.identity }
     {
         self.memory.fill(0);
-        self.fmmus = read_fmmus(&self.memory);
+        self.fmmus = read_fmmus(self.dictionary.kind(), &self.memory);
         reset_managers(&mut self.managers);
         self.al.reset();
         self.port.reset();

@@ -1,16 +1,17 @@
 //! What a slave's firmware does: it decides AL requests, finishes reads of the SII and takes faults.
 
 ghost use Rattle.std.specs.Prelude.{◌≡◌, ◌<◌, ◌^◌, ◌↔◌, length, IsTrue, true};
+ghost use Rattle.std.specs.Option.{option_copied};
 ghost use Rattle.ec_al.specs.declared.state.State.TheVariants.{Op};
 ghost use Rattle.ec_slave.specs.Checking.{checks_of, control_word as control_word_of, is_manager as is_manager_of, mailbox_check, process_check};
-ghost use Rattle.ec_slave.specs.Serving.{managers_entered, replies_entered, read_finished, request_decided, served, unlocked_empty};
+ghost use Rattle.ec_slave.specs.Serving.{al_decided, awaited_by as awaited_of, awaited_if, awaits_by, has_outputs, is_awaiting as is_awaiting_of, managers_entered, outputs_awaited, replies_entered, read_finished, request_decided, served, unlocked_empty};
 ghost use Rattle.ec_slave.specs.Faulting.{faulted, locked_empty};
 
 use crate::slave::Slave;
 use ec_al::{Checks, State};
-use ec_device::Mailbox;
+use ec_device::{Hardware, Mailbox};
 use ec_regs::registers::AL_CONTROL;
-use ec_regs::{CONTROL_INPUTS, CONTROL_MAILBOX_IN, CONTROL_MAILBOX_OUT, CONTROL_OUTPUTS};
+use ec_regs::{AlWord, CONTROL_INPUTS, CONTROL_MAILBOX_IN, CONTROL_MAILBOX_OUT, CONTROL_OUTPUTS};
 use ec_sync::SyncManager;
 
 /// Bits 0 to 3 of the control byte of the mailbox that the ring writes.
@@ -78,12 +79,62 @@ impl Slave {
         ensures { self.new ≡ request_decided self.old }
     {
         let control = self.control_word();
-        let checks = self.checks();
+        if self.is_awaiting(control) {
+            return;
+        }
         let old = self.al.state();
-        self.al.step(control, checks);
+        self.step_al(control);
+        self.enter(old);
+        self.await_outputs(old);
+    }
+
+    /// Whether the firmware awaits outputs before it decides a request for OP by this control word: that of a type of real
+    /// devices does, in SAFEOP.
+    fn is_awaiting(&self, control: u16) -> bool
+        requires { control ≡ control_word_of self.now }
+        ensures { result ≡ is_awaiting_of self.now.kind.hardware self.now }
+    {
+        let hardware = self.dictionary.kind().hardware();
+        let is_awaited = self.managers[2].is_awaited();
+        awaits_outputs(hardware, self.al.state(), control, is_awaited)
+    }
+
+    /// Decides the AL request that waits by this control word and the checks, or copies the word if the type has no firmware.
+    fn step_al(&mut self, control: u16)
+        requires control { control ≡ control_word_of self.old }
+        requires waits { self.old.al.requested ≡ true }
+        ensures { self.new ≡ record self.old { al = al_decided self.old.kind.hardware self.old } }
+    {
+        if self.dictionary.kind().has_firmware() {
+            let checks = self.checks();
+            self.al.step(control, checks);
+        } else {
+            self.al.copy(control);
+        }
+    }
+
+    /// Changes the managers, and the counter of replies, as the state is entered from the old one.
+    fn enter(&mut self, old: State)
+        ensures { let s = self.old in self.new ≡ record s {
+          managers = managers_entered old s.al.state s.managers;
+          replies = replies_entered old s.al.state s.replies;
+        } }
+    {
         let new = self.al.state();
         enter_state(&mut self.managers, old, new);
         self.replies = replies_in(old, new, self.replies);
+    }
+
+    /// Awaits outputs from now on, if SAFEOP was entered from the old state by firmware of real devices, and any are assigned.
+    fn await_outputs(&mut self, old: State)
+        ensures { let s = self.old in self.new ≡ record s {
+          managers = outputs_awaited s.kind.hardware (has_outputs s) old s.al.state s.managers;
+        } }
+    {
+        let hardware = self.dictionary.kind().hardware();
+        let has_outputs = self.dictionary.output_bits() > 0;
+        let is_awaited = awaited_by(hardware, has_outputs, old, self.al.state());
+        await_if(&mut self.managers[2], is_awaited);
     }
 
     /// Decides the AL request that waits, if one does.
@@ -117,6 +168,47 @@ impl Slave {
     {
         let at = AL_CONTROL;
         self.memory[at] as u16 + 256 * self.memory[at + 1] as u16
+    }
+}
+
+/// Whether firmware awaits outputs before it decides a request by this control word.
+fn awaits_outputs(hardware: Option<&Hardware>, state: State, control: u16, is_awaited: bool) -> bool
+    ensures { result ≡ awaits_by (option_copied hardware.entry) state control is_awaited }
+{
+    match hardware {
+        None => false,
+        Some(hardware) => {
+            hardware.has_firmware
+                && state == State::SafeOp
+                && u16::from(AlWord(control).state()) == State::Op.number()
+                && is_awaited
+        }
+    }
+}
+
+/// Whether outputs are awaited from now on, as a state is entered from the old one; none if that stays as it is.
+fn awaited_by(
+    hardware: Option<&Hardware>,
+    has_outputs: bool,
+    old: State,
+    new: State,
+) -> Option<bool>
+    ensures { result ≡ awaited_of (option_copied hardware.entry) has_outputs old new }
+{
+    let hardware = hardware?;
+    if new == State::SafeOp && old != State::SafeOp {
+        Some(hardware.has_firmware && has_outputs)
+    } else {
+        None
+    }
+}
+
+/// Awaits the ring's next value, or awaits it no more, if that is said.
+fn await_if(manager: &mut SyncManager, is_awaited: Option<bool>)
+    ensures { manager.new ≡ awaited_if is_awaited manager.old }
+{
+    if let Some(is_awaited) = is_awaited {
+        manager.await_value(is_awaited);
     }
 }
 

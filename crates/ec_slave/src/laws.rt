@@ -8,10 +8,11 @@ ghost use Rattle.ec_slave.specs.MeetingLaws.{LogicalBitByBit, ManagersAfterWrite
 ghost use Rattle.ec_slave.specs.AgainstAll.{LogicalAgainstAll, PhysicalAgainstAll};
 ghost use Rattle.ec_slave.specs.Showing.{ReadsShowTheRun, SlavesShowWholeValues};
 ghost use Rattle.ec_slave.specs.Steps.{AccessesAreSteps, ManagersGoByRuns};
+ghost use Rattle.ec_slave.specs.HardwareLaws.{MissingFmmusReadZero, OutputsAreAwaitedOutsideOp, OutputsComeFirst, SlavesTakeNames, StatusIsCopied, SwitchedOnAwaitsNothing};
 ghost use Rattle.ec_slave.specs.LogicalLaws.{BroadcastLaw, ExchangeLaw, MappedLaw, MissesLaw};
-ghost use Rattle.ec_slave.specs.Interface.{SlavesAreSwitchedOn, SwitchedOnWhole, StepsHaveThreeParts, StepsSettle, RequestsAreDecided, ChecksAreOfManagers, ReadsAreFinished, MessagesKeep, MessagesRest, RequestsAreAnswered};
+ghost use Rattle.ec_slave.specs.Interface.{SlavesAreSwitchedOn, SwitchedOnWhole, StepsHaveThreeParts, StepsSettle, RequestsAreDecided, PlainTypesDecide, ChecksAreOfManagers, ReadsAreFinished, MessagesKeep, MessagesRest, RequestsAreAnswered};
 ghost use Rattle.ec_slave.specs.Interface.{FaultsAreInOp, ApplicationsGoByBytes, ApplicationsGoWhole, FewInputs, DatagramsKeepTheInside, ValuesStayWhole, DatagramsGoOn, DatagramsStay, DatagramsStayPast, WritesMeet, ReadsMeet, LogicalCommandsMeet, OutputsArePublished};
-ghost use Rattle.ec_slave.specs.Interface.{RegistersAreWritten, RegistersAreRead, ManagersAside, RegistersAreOpen, SlavesShowThemselves, UpdatedByIndex, UpdatedWhole, RamIsGoverned, ManagersAreAccessed, WholeValuesAreTheData, AccessesLeave};
+ghost use Rattle.ec_slave.specs.Interface.{RegistersAreWritten, RegistersAreRead, ManagersAside, ManagersAreCleared, SiiConfigurationIsLeft, RegistersAreOpen, SlavesShowThemselves, UpdatedByIndex, UpdatedWhole, RamIsGoverned, ManagersAreAccessed, WholeValuesAreTheData, AccessesLeave};
 ghost use Rattle.ec_slave.specs.FirmwareLaws.{AssignmentsStay, FirstReplyIsOne, PowerOnAssigns, RestsQuietly, ServesKeepAssignments, ServesKeepBuffers, ServesKeepSettings, StatesAreEntered};
 
 /// A datagram for another station address passes, and changes nothing.
@@ -143,13 +144,41 @@ pub fn serves_keep_settings()
     ensures { ServesKeepSettings }
 {}
 
+/// What a master writes by the numbers and addresses of a slave's type, the slave takes at the role's place, and at no other; what
+/// its registers read is what the manager at the place holds.
+#[tactic(auto, using(crate::proofs::Always::HardwareLaws::names_taken))]
+pub fn slaves_take_names()
+    ensures { SlavesTakeNames }
+{}
+
+/// Whatever happens to a slave since it was switched on, the registers of FMMUs that it lacks read 0.
+#[tactic(auto, using(crate::proofs::Always::HardwareLaws::missing_read_zero))]
+pub fn missing_fmmus_read_zero()
+    ensures { MissingFmmusReadZero }
+{}
+
+/// A device without firmware shows in AL status what was written to AL control. One with firmware, of a type of real devices, enters
+/// OP only once the ring has written its outputs in SAFEOP.
+#[tactic(auto, using(crate::proofs::Always::HardwareLaws::status_copied, crate::proofs::Always::HardwareLaws::outputs_first))]
+pub fn devices_enter_states()
+    ensures copied { StatusIsCopied }
+    ensures outputs { OutputsComeFirst }
+{}
+
+/// In OP no outputs are awaited, and never in a slave without firmware of real devices, whatever happens to it.
+#[tactic(auto, using(crate::proofs::Always::HardwareLaws::nothing_awaited, crate::proofs::Always::HardwareLaws::stays_outside))]
+pub fn outputs_are_awaited_outside_op()
+    ensures power_on { SwitchedOnAwaitsNothing }
+    ensures stay { OutputsAreAwaitedOutsideOp }
+{}
+
 /// In SAFEOP and OP a firmware step changes no buffer of a sync manager, as long as it does not leave them.
 #[tactic(auto, using(crate::proofs::FirmwareRuns::RestsQuietly::buffers_kept))]
 pub fn serves_keep_buffers()
     ensures { ServesKeepBuffers }
 {}
 
-/// OP is reached only from SAFEOP, by a request for it. SAFEOP is entered from PREOP only if managers 2 and 3 are as the PDOs
+/// By firmware OP is reached only from SAFEOP, by a request for it. SAFEOP is entered from PREOP only if managers 2 and 3 are as the PDOs
 /// that are assigned want them. PREOP is entered from INIT only if managers 0 and 1 are the type's mailboxes.
 #[tactic(auto, using(crate::proofs::FirmwareRuns::StatesAreEntered::states_entered))]
 pub fn states_are_entered()
@@ -191,9 +220,10 @@ pub fn steps_settle()
 {}
 
 /// A request that waits is decided, with checks that look at the managers and the assignments.
-#[tactic(auto, using(crate::proofs::FirmwareRuns::StepLaws::decided, crate::proofs::FirmwareRuns::StepLaws::checks))]
+#[tactic(auto, using(crate::proofs::FirmwareRuns::StepLaws::decided, crate::proofs::FirmwareRuns::StepLaws::plain_decides, crate::proofs::FirmwareRuns::StepLaws::checks))]
 pub fn requests_are_decided()
     ensures decided { RequestsAreDecided }
+    ensures plain { PlainTypesDecide }
     ensures checks { ChecksAreOfManagers }
 {}
 
@@ -245,12 +275,15 @@ pub fn datagrams_meet()
     ensures logical { LogicalCommandsMeet }
 {}
 
-/// What a write of registers leaves, that a read of them changes nothing, and which of them may be read and written.
+/// What a write of registers leaves, that a read of them changes nothing, and which of them may be read and written. Zeros
+/// clear managers, and a write of 0x0500 leaves a slave that isn't full.
 pub fn registers_are_written()
     ensures written { RegistersAreWritten }
     ensures read { RegistersAreRead }
     ensures aside { ManagersAside }
     ensures open { RegistersAreOpen }
+    ensures cleared { ManagersAreCleared }
+    ensures left { SiiConfigurationIsLeft }
 {}
 
 /// What the registers of the AL status and of the SII read.

@@ -8,6 +8,7 @@ mod fmmus;
 pub mod laws;
 mod logical;
 mod mailbox;
+mod numbers;
 mod passing;
 mod physical;
 mod role;

@@ -15,12 +15,13 @@ mod managers;
 
 use crate::fmmus::read_fmmus;
 use crate::passing::MAX_DATA;
-use crate::physical::bytes::{end_of_part, read_over, read_slice, reads_byte, write_physical};
+use crate::physical::bytes::{end_of_part, read_over, read_slice, reads_byte, write_memory};
 use crate::physical::managers::access_managers;
 use crate::role::Role;
 use crate::slave::Slave;
 use ec_al::Al;
 use ec_bits::within;
+use ec_device::SlaveType;
 use ec_exchange::owner_of;
 use ec_fmmu::FmmuTable;
 use ec_regs::registers::{AL_CONTROL, AL_STATUS, FMMUS, FMMUS_END, RAM_START, SYNC_MANAGERS};
@@ -52,24 +53,30 @@ fn write_control(al: &mut Al, port: &mut Port, from: usize, bytes: &[u8])
 }
 
 /// Decodes the FMMUs again after a write of `len` bytes that begin at `from`, if it reaches their registers.
-fn renew_fmmus(fmmus: &mut FmmuTable, memory: &[u8], from: usize, len: usize)
+fn renew_fmmus(fmmus: &mut FmmuTable, kind: &SlaveType, memory: &[u8], from: usize, len: usize)
     requires room { length memory.now ≡ ram_end }
     requires small { from + len < 2 ^ 32 }
-    ensures { fmmus.new ≡ (if nat_lt from (fmmu_start 4) && nat_lt (fmmu_start 0) (from + len) then fmmus_of memory.now else fmmus.old) }
+    ensures { fmmus.new ≡ (if nat_lt from (fmmu_start 4) && nat_lt (fmmu_start 0) (from + len) then fmmus_of kind.now.hardware memory.now else fmmus.old) }
 {
     if from < FMMUS_END && FMMUS < from + len {
-        *fmmus = read_fmmus(memory);
+        *fmmus = read_fmmus(kind, memory);
     }
 }
 
 /// Writes to the managers. A write below their registers, and so below the RAM, concerns none of them.
-fn write_managers(managers: &mut [SyncManager], reads: bool, from: usize, bytes: &[u8])
+fn write_managers(
+    kind: &SlaveType,
+    managers: &mut [SyncManager],
+    reads: bool,
+    from: usize,
+    bytes: &[u8],
+)
     requires four { length managers.old ≡ 4 }
     requires small { from + length bytes.now < 2 ^ 32 }
-    ensures { managers.new ≡ physical_managers [] reads true (record { from = from; bytes = bytes.now }) 0 managers.old }
+    ensures { managers.new ≡ physical_managers kind.now.hardware [] reads true (record { from = from; bytes = bytes.now }) 0 managers.old }
 {
     if from + bytes.len() > SYNC_MANAGERS {
-        access_managers(managers, reads, true, from, bytes);
+        access_managers(kind, managers, reads, true, from, bytes);
     }
 }
 
@@ -130,23 +137,26 @@ impl Slave {
         ensures { self.new ≡ physical_after self.old true false (record { from = from; bytes = bytes.now }) }
     {
         if from + bytes.len() > RAM_START {
-            access_managers(&mut self.managers, true, false, from, bytes);
+            let kind = self.dictionary.kind();
+            access_managers(kind, &mut self.managers, true, false, from, bytes);
         }
     }
 
     /// Writes the bytes of a datagram, and returns whether one was written.
     #[tactic(auto, unfolding(crate::specs::Physical::physical_after))]
     fn write_bytes(&mut self, reads: bool, from: usize, bytes: &[u8]) -> bool
-        requires { from + length bytes.now < 2 ^ 32 }
+        requires small { from + length bytes.now < 2 ^ 32 }
+        requires few { length bytes.now < 2048 }
         ensures slave { self.new ≡ physical_after self.old reads true (record { from = from; bytes = bytes.now }) }
         ensures some { result ≡ is_written self.old (record { from = from; bytes = bytes.now }) }
     {
         let is_busy = self.port.is_busy();
-        let is_some = write_physical(&mut self.memory, &self.managers, is_busy, from, bytes);
+        let kind = self.dictionary.kind();
+        let is_some = write_memory(kind, &mut self.memory, &self.managers, is_busy, from, bytes);
         write_control(&mut self.al, &mut self.port, from, bytes);
         let is_taken = self.link.write(from, bytes);
-        write_managers(&mut self.managers, reads, from, bytes);
-        renew_fmmus(&mut self.fmmus, &self.memory, from, bytes.len());
+        write_managers(kind, &mut self.managers, reads, from, bytes);
+        renew_fmmus(&mut self.fmmus, kind, &self.memory, from, bytes.len());
         is_some | is_taken
     }
 

@@ -1,16 +1,17 @@
 //! A slave: its memory, sync managers, AL state, SII and objects.
-ghost use Rattle.std.specs.Prelude.{◌≡◌, ◌+◌, ◌*◌, ◌<◌, ◌≤◌, ◌^◌, ◌||◌, true, ℕ, length, slice_index, IfOk, IfSome, if◌then◌else◌, [], ◌∷◌, Option, Some, None, nat_lt};
+ghost use Rattle.std.specs.Prelude.{◌≡◌, ◌+◌, ◌-◌, ◌*◌, ◌/◌, ◌%◌, ◌<◌, ◌≤◌, ◌^◌, ◌||◌, true, ℕ, length, slice_index, IfOk, IfSome, if◌then◌else◌, [], ◌∷◌, Option, Some, None, nat_lt};
 ghost use Rattle.ec_bits.specs.Bits.{within, zeros};
-ghost use Rattle.ec_regs.specs.Memory.{al_status, ram_start, ram_end};
+ghost use Rattle.ec_regs.specs.Memory.{al_status, ram_start, ram_end, sync_managers};
 ghost use Rattle.ec_sync.specs.SyncManager.{no_manager};
 ghost use Rattle.ec_sii.specs.SiiImage.{image_of};
 ghost use Rattle.ec_sii.specs.Port.{idle_port};
 ghost use Rattle.ec_coe.specs.Objects.{new_dictionary};
 ghost use Rattle.ec_sync.specs.Governing.{governor as governor_of};
-ghost use Rattle.ec_slave.specs.Physical.{byte_at, register_byte};
-ghost use Rattle.ec_slave.specs.State.{SlaveState, memory_length, power_on, station_of};
+ghost use Rattle.ec_slave.specs.Physical.{byte_at, numbered_byte, register_byte};
+ghost use Rattle.ec_slave.specs.State.{memory_length, power_on, station_of};
 
 use crate::fmmus::read_fmmus;
+use crate::numbers::register_of;
 use ec_al::Al;
 use ec_bits::within;
 use ec_coe::Dictionary;
@@ -19,9 +20,9 @@ use ec_dl::DataLink;
 use ec_exchange::owner_of;
 use ec_fmmu::FmmuTable;
 use ec_regs::registers::{
-    AL_CONTROL, AL_STATUS, AL_STATUS_CODE, FMMU_COUNT, FMMUS, FMMUS_END, MANAGER_COUNT,
-    MANAGER_SIZE, NUMBER_OF_FMMUS, RAM_END, RAM_KIB, RAM_SIZE, RAM_START, SII_CONTROL, SII_DATA,
-    STATION_ADDRESS, SYNC_MANAGERS, SYNC_MANAGERS_END,
+    AL_CONTROL, AL_STATUS, AL_STATUS_CODE, FMMUS, FMMUS_END, MANAGER_COUNT, MANAGER_SIZE,
+    NUMBER_OF_FMMUS, RAM_END, RAM_KIB, RAM_SIZE, RAM_START, SII_CONTROL, SII_DATA, STATION_ADDRESS,
+    SYNC_MANAGERS, SYNC_MANAGERS_END,
 };
 use ec_sii::{Port, SiiImage};
 use ec_sync::SyncManager;
@@ -96,7 +97,7 @@ impl Slave {
     {
         let (memory, managers) = ram;
         let (dictionary, port) = objects;
-        let fmmus = read_fmmus(&memory);
+        let fmmus = read_fmmus(dictionary.kind(), &memory);
         let link = DataLink::new(dictionary.kind().face());
         Slave {
             dictionary,
@@ -190,7 +191,7 @@ impl Slave {
         ensures { result ≡ byte_at self.now address }
     {
         if within(NUMBER_OF_FMMUS, 3, address) {
-            return constant(address);
+            return self.constant(address);
         }
         if is_in_memory(address) {
             return self.memory[address];
@@ -205,23 +206,37 @@ impl Slave {
             return self.port.read(address);
         }
         if within(SYNC_MANAGERS, MANAGERS_SIZE, address) {
-            let place = (address - SYNC_MANAGERS) / MANAGER_SIZE;
-            return self.managers[place].register(address % MANAGER_SIZE);
+            return self.manager_register(address);
         }
         self.link.read(address)
     }
-}
 
-/// The byte that a register reads that says how many FMMUs, managers or KiB of RAM a slave has.
-#[tactic(auto, unfolding(crate::specs::Physical::register_byte))]
-fn constant(address: usize) -> u8
-    requires { within 4 3 address ≡ true }
-    ensures { (s : SlaveState) → result ≡ register_byte s address }
-{
-    match address {
-        RAM_SIZE => RAM_KIB,
-        NUMBER_OF_FMMUS => FMMU_COUNT,
-        _ => MANAGER_COUNT,
+    /// The byte that a register reads that says how many FMMUs, managers or KiB of RAM the slave has.
+    #[tactic(auto, unfolding(crate::specs::Physical::register_byte))]
+    fn constant(&self, address: usize) -> u8
+        requires { within 4 3 address ≡ true }
+        ensures { result ≡ register_byte self.now address }
+    {
+        match address {
+            RAM_SIZE => RAM_KIB,
+            NUMBER_OF_FMMUS => self.dictionary.kind().fmmu_count(),
+            _ => MANAGER_COUNT,
+        }
+    }
+
+    /// The byte that a register of a sync manager reads. They go by the managers' numbers, and by the address that the
+    /// outputs have there.
+    fn manager_register(&self, address: usize) -> u8
+        requires { within 2048 32 address ≡ true }
+        ensures { result ≡ numbered_byte self.now.kind.hardware self.now.managers ((address - sync_managers) / 8) (address % 8) }
+    {
+        let number = (address - SYNC_MANAGERS) / MANAGER_SIZE;
+        let kind = self.dictionary.kind();
+        register_of(
+            kind,
+            &self.managers[kind.manager_place(number)],
+            address % MANAGER_SIZE,
+        )
     }
 }
 

@@ -5,7 +5,7 @@ use Rattle.ec_frame.specs.declared.command.Command.TheVariants.{Nop}
 use Rattle.ec_frame.specs.Building.{new_datagram}
 use Rattle.ec_frame.specs.Datagram.{Datagram}
 use Rattle.ec_start.specs.declared.action.Action.{Action}
-use Rattle.ec_start.specs.declared.action.Action.TheVariants.{CountSlaves, AskInit, AwaitInit, ClearFmmus, ClearManagers, ClearStations, NameSlave, AskWord, AwaitWord, SetManager, SetFmmu, AskState, AwaitState, SendRequest, AwaitReply}
+use Rattle.ec_start.specs.declared.action.Action.TheVariants.{CountSlaves, AskInit, AwaitInit, ClearFmmus, ClearManagers, ClearStations, NameSlave, AskWord, AwaitWord, SetManager, SetFmmu, AskState, AwaitState, SendRequest, AwaitReply, AwaitInitState, ClearAllFmmus, ClearAllManagers, AssignSii, ClearSiiError, AwaitCleanInit, FeedPart}
 use Rattle.ec_frame.specs.Names.{name_bytes, name_datagram}
 use Rattle.ec_start.specs.Actions.{datagram_of, frame_of}
 
@@ -20,12 +20,19 @@ datagram_is ClearStations number = refl
 datagram_is (NameSlave i) number = refl
 datagram_is (AskWord i which) number = refl
 datagram_is (AwaitWord i which) number = refl
-datagram_is (SetManager i k m) number = refl
-datagram_is (SetFmmu i k f) number = refl
+datagram_is (SetManager i k m r) number = refl
+datagram_is (SetFmmu i k f start) number = refl
 datagram_is (AskState i state) number = refl
 datagram_is (AwaitState i state) number = refl
 datagram_is (SendRequest i before b r) number = refl
 datagram_is (AwaitReply i b r) number = refl
+datagram_is AwaitInitState number = refl
+datagram_is ClearAllFmmus number = refl
+datagram_is ClearAllManagers number = refl
+datagram_is (AssignSii access) number = refl
+datagram_is ClearSiiError number = refl
+datagram_is (AwaitCleanInit i) number = refl
+datagram_is (FeedPart f) number = refl
 
 -- both datagrams of the frame of an action
 pub framed : (a : Action) (number index : ℕ) (name bytes : List ℕ) (command : Command) (address : ℕ) → index ≡ number % 256

@@ -1,6 +1,6 @@
 -- The actions ahead of a cursor: what the steps of the cursor do to them.
-use Rattle.std.proofs.Common.{◌≡◌, ◌≢◌, ℕ, zero, suc, ◌+◌, ◌-◌, ◌/◌, ◌%◌, ◌<◌, ◌≤◌, ◌==◌, ◌&&◌, List, [], ◌∷◌, ◌++◌, length, drop, get_or, slice_get, Option, Some, None, Bool, true, false, not, if◌then◌else◌, nat_lt, option_map, refl, sym, ap, ◌∙◌, arith, append_assoc, append-nil}
-use Rattle.std.proofs.Common.{inl, inr}
+use Rattle.std.proofs.Common.{◌≡◌, ◌≢◌, ℕ, zero, suc, ◌+◌, ◌-◌, ◌/◌, ◌%◌, ◌<◌, ◌≤◌, ◌==◌, ◌&&◌, List, [], ◌∷◌, ◌++◌, length, drop, get_or, slice_get, Option, Some, None, Bool, true, false, not, nat_lt, option_map, refl, sym, ap, ◌∙◌, arith, append_assoc, append-nil}
+use Rattle.std.proofs.Common.{inl, inr, if◌then◌else◌}
 use Rattle.std.proofs.lemmas.Bool.{cases_Bool, ltb-false, ltb-true}
 use Rattle.std.proofs.lemmas.List.{drop_all, drop_more}
 use Rattle.ec_device.specs.declared.slave_type.Mailbox.{Mailbox}
@@ -9,7 +9,7 @@ use Rattle.ec_start.specs.declared.action.SdoRequest.{SdoRequest}
 use Rattle.ec_start.specs.declared.action.Action.{Action}
 use Rattle.ec_start.specs.declared.action.Action.TheVariants.{SendRequest, AwaitReply}
 use Rattle.ec_start.specs.declared.script.Stretch.{Stretch}
-use Rattle.ec_start.specs.declared.script.Stretch.TheVariants.{Opening, Naming, Identifying, Mailboxes, ToPreOp, Talking, Mapping, ToSafeOp, ToOp}
+use Rattle.ec_start.specs.declared.script.Stretch.TheVariants.{Opening, Naming, Settling, Identifying, Closing, Mailboxes, ToPreOp, Talking, Mapping, ToSafeOp, ToOp}
 use Rattle.ec_start.specs.declared.script.Cursor.{Cursor}
 use Rattle.ec_start.specs.Plans.{settings_at, fmmu_at}
 use Rattle.ec_start.specs.Scripts.{each_slave, script, requests, exchanged, talked, mapped, manager_set, fmmu_set}
@@ -59,24 +59,29 @@ each_step f (p ∷ ps) k zero = refl
 each_step f (p ∷ ps) k (suc i) = let z : suc i + 1 ≡ suc (i + 1) = omega arith in rw z (each_step f ps k i)
 
 -- a whole stretch from its first share on
-whole_step : (st : Stretch) (ps : List SlavePlan) (rest : List Action) → whole st ps ++ rest ≡ share_of (share st) 0 (slice_get ps 0) ++ (each_slave (share st) 1 (drop 1 ps) ++ rest)
+whole_step : (st : Stretch) (ps : List SlavePlan) (rest : List Action)
+    → each_slave (share st) 0 ps ++ rest ≡ share_of (share st) 0 (slice_get ps 0) ++ (each_slave (share st) 1 (drop 1 ps) ++ rest)
 whole_step st ps rest = ap (λ xs. xs ++ rest) (each_step (share st) ps 0 0) ∙ append_assoc (share_of (share st) 0 (slice_get ps 0)) _ rest
 
-later_step : (st next : Stretch) (ps : List SlavePlan) → following st ≡ Some next → (later st ps ≡ whole next ps ++ later next ps) × (is_for_all next ≡ false)
-later_step Opening next ps e = let f : Some Naming ≡ Some next = e in let g : Naming ≡ next = cc in rw (sym g) (refl, refl)
-later_step Naming next ps e = let f : Some Identifying ≡ Some next = e in let g : Identifying ≡ next = cc in rw (sym g) (refl, refl)
-later_step Identifying next ps e = let f : Some Mailboxes ≡ Some next = e in let g : Mailboxes ≡ next = cc in rw (sym g) (refl, refl)
-later_step Mailboxes next ps e = let f : Some ToPreOp ≡ Some next = e in let g : ToPreOp ≡ next = cc in rw (sym g) (refl, refl)
-later_step ToPreOp next ps e = let f : Some Talking ≡ Some next = e in let g : Talking ≡ next = cc in rw (sym g) (refl, refl)
-later_step Talking next ps e = let f : Some Mapping ≡ Some next = e in let g : Mapping ≡ next = cc in rw (sym g) (refl, refl)
-later_step Mapping next ps e = let f : Some ToSafeOp ≡ Some next = e in let g : ToSafeOp ≡ next = cc in rw (sym g) (refl, refl)
-later_step ToSafeOp next ps e = let f : Some ToOp ≡ Some next = e in let g : ToOp ≡ next = cc in rw (sym g) (sym (append-nil (whole ToOp ps)), refl)
+later_step : (st next : Stretch) (ps : List SlavePlan) → following st ≡ Some next → later st ps ≡ whole next ps ++ later next ps
+later_step Opening next ps e = let f : Some Naming ≡ Some next = e in let g : Naming ≡ next = cc in rw (sym g) refl
+later_step Naming next ps e = let f : Some Settling ≡ Some next = e in let g : Settling ≡ next = cc in rw (sym g) refl
+later_step Settling next ps e = let f : Some Identifying ≡ Some next = e in let g : Identifying ≡ next = cc in rw (sym g) refl
+later_step Identifying next ps e = let f : Some Closing ≡ Some next = e in let g : Closing ≡ next = cc in rw (sym g) refl
+later_step Closing next ps e = let f : Some Mailboxes ≡ Some next = e in let g : Mailboxes ≡ next = cc in rw (sym g) refl
+later_step Mailboxes next ps e = let f : Some ToPreOp ≡ Some next = e in let g : ToPreOp ≡ next = cc in rw (sym g) refl
+later_step ToPreOp next ps e = let f : Some Talking ≡ Some next = e in let g : Talking ≡ next = cc in rw (sym g) refl
+later_step Talking next ps e = let f : Some Mapping ≡ Some next = e in let g : Mapping ≡ next = cc in rw (sym g) refl
+later_step Mapping next ps e = let f : Some ToSafeOp ≡ Some next = e in let g : ToSafeOp ≡ next = cc in rw (sym g) refl
+later_step ToSafeOp next ps e = let f : Some ToOp ≡ Some next = e in let g : ToOp ≡ next = cc in rw (sym g) (sym (append-nil (whole ToOp ps)))
 later_step ToOp next ps e = absurd (let f : None ≡ Some next = e in cc)
 
 later_end : (st : Stretch) (ps : List SlavePlan) → following st ≡ None → later st ps ≡ []
 later_end Opening ps e = absurd (let f : Some Naming ≡ None = e in cc)
-later_end Naming ps e = absurd (let f : Some Identifying ≡ None = e in cc)
-later_end Identifying ps e = absurd (let f : Some Mailboxes ≡ None = e in cc)
+later_end Naming ps e = absurd (let f : Some Settling ≡ None = e in cc)
+later_end Settling ps e = absurd (let f : Some Identifying ≡ None = e in cc)
+later_end Identifying ps e = absurd (let f : Some Closing ≡ None = e in cc)
+later_end Closing ps e = absurd (let f : Some Mailboxes ≡ None = e in cc)
 later_end Mailboxes ps e = absurd (let f : Some ToPreOp ≡ None = e in cc)
 later_end ToPreOp ps e = absurd (let f : Some Talking ≡ None = e in cc)
 later_end Talking ps e = absurd (let f : Some Mapping ≡ None = e in cc)
@@ -86,8 +91,10 @@ later_end ToOp ps e = refl
 
 rank_step : (st next : Stretch) → following st ≡ Some next → rank next + 1 ≡ rank st
 rank_step Opening next e = let f : Some Naming ≡ Some next = e in let g : Naming ≡ next = cc in rw (sym g) refl
-rank_step Naming next e = let f : Some Identifying ≡ Some next = e in let g : Identifying ≡ next = cc in rw (sym g) refl
-rank_step Identifying next e = let f : Some Mailboxes ≡ Some next = e in let g : Mailboxes ≡ next = cc in rw (sym g) refl
+rank_step Naming next e = let f : Some Settling ≡ Some next = e in let g : Settling ≡ next = cc in rw (sym g) refl
+rank_step Settling next e = let f : Some Identifying ≡ Some next = e in let g : Identifying ≡ next = cc in rw (sym g) refl
+rank_step Identifying next e = let f : Some Closing ≡ Some next = e in let g : Closing ≡ next = cc in rw (sym g) refl
+rank_step Closing next e = let f : Some Mailboxes ≡ Some next = e in let g : Mailboxes ≡ next = cc in rw (sym g) refl
 rank_step Mailboxes next e = let f : Some ToPreOp ≡ Some next = e in let g : ToPreOp ≡ next = cc in rw (sym g) refl
 rank_step ToPreOp next e = let f : Some Talking ≡ Some next = e in let g : Talking ≡ next = cc in rw (sym g) refl
 rank_step Talking next e = let f : Some Mapping ≡ Some next = e in let g : Mapping ≡ next = cc in rw (sym g) refl
@@ -98,8 +105,11 @@ rank_step ToOp next e = absurd (let f : None ≡ Some next = e in cc)
 -- ---- the next share
 
 -- what a whole stretch is from its beginning on
-ahead_whole : (st : Stretch) (ps : List SlavePlan) → is_for_all st ≡ false → whole st ps ++ later st ps ≡ ahead ps (record { stretch = st; slave = 0; place = 0 })
-ahead_whole st ps e = rw e (whole_step st ps (later st ps))
+ahead_whole : (st : Stretch) (ps : List SlavePlan) → whole st ps ++ later st ps ≡ ahead ps (record { stretch = st; slave = 0; place = 0 })
+ahead_whole st ps = elim (cases_Bool (is_for_all st)) [
+  | inl t ↦ rw t refl
+  | inr f ↦ rw f (whole_step st ps (later st ps))
+]
 
 -- a slave's share, and what is behind it
 ahead_slave : (st : Stretch) (ps : List SlavePlan) (i : ℕ) → is_for_all st ≡ false → beyond st ps i ≡ ahead ps (record { stretch = st; slave = i + 1; place = 0 })
@@ -137,7 +147,7 @@ behind_case ps c d false t e = beyond_last c.stretch ps c.slave t ∙ next (foll
         let h : Some (record { stretch = st; slave = 0; place = 0 }) ≡ Some d = f in
         let g : record { stretch = st; slave = 0; place = 0 } ≡ d = cc in
         let l = later_step c.stretch st ps is in
-        l.0 ∙ (ahead_whole st ps l.1 ∙ ap (ahead ps) g)
+        l ∙ (ahead_whole st ps ∙ ap (ahead ps) g)
 
 -- past the end of a share, the actions ahead are those from the next one on
 pub ahead_behind : (ps : List SlavePlan) (c d : Cursor) → slice_get (share_at c.stretch ps c.slave) c.place ≡ None → behind (length ps) c ≡ Some d → ahead ps c ≡ ahead ps d

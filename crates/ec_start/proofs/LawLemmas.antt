@@ -1,5 +1,5 @@
 -- The laws.
-use Rattle.std.proofs.Common.{◌≡◌, ℕ, ◌+◌, ◌<◌, ◌==◌, List, [], ◌∷◌, ◌++◌, Bool, true, false, Option, Some, None, refl, sym, ◌∙◌, ap, subst, arith, append_assoc, length, map, if◌then◌else◌}
+use Rattle.std.proofs.Common.{◌≡◌, ℕ, ◌+◌, ◌<◌, ◌==◌, List, [], ◌∷◌, ◌++◌, Bool, true, false, Option, Some, None, refl, sym, subst, arith, append_assoc, length, map, if◌then◌else◌}
 use Rattle.std.proofs.Common.{inl, inr}
 use Rattle.std.specs.List.{flat_map}
 use Rattle.std.proofs.lemmas.Bool.{cases_Bool, ne_eqb, eq-eqb, eqb-false}
@@ -7,10 +7,9 @@ use Rattle.ec_device.specs.declared.slave_type.Entry.{Entry}
 use Rattle.ec_device.specs.declared.slave_type.Pdo.{Pdo}
 use Rattle.ec_device.specs.Objects.{pdo_at}
 use Rattle.ec_coe.specs.Objects.{output_assignment, input_assignment, has_some}
-use Rattle.ec_link.specs.declared.settings.SlavePlan.{SlavePlan}
 use Rattle.ec_start.specs.declared.action.SdoRequest.{SdoRequest}
 use Rattle.ec_start.specs.declared.verdict.Verdict.{Verdict}
-use Rattle.ec_start.specs.declared.verdict.Verdict.TheVariants.{Next, Word, Again, Fails}
+use Rattle.ec_start.specs.declared.verdict.Verdict.TheVariants.{Next, Word, Fed, Again, Fails}
 use Rattle.ec_start.specs.declared.phase.Phase.{Phase}
 use Rattle.ec_start.specs.declared.phase.Phase.TheVariants.{Idle, Sent, Ready, Failed}
 use Rattle.ec_start.specs.declared.phase.NextFrame.TheVariants.{Ended}
@@ -20,7 +19,7 @@ use Rattle.ec_frame.specs.Datagram.{Datagram}
 use Rattle.ec_start.specs.Verdicts.{verdict}
 use Rattle.ec_start.specs.Running.{StartState, Shape, shape, second, action_of, type_of, taken, begun, is_ended, asked_by, next_frame_by, given_up_by, judged, max_polls, last_number, sending, IsStartTaken}
 use Rattle.ec_start.specs.Seeking.{uploads_of, downloads_of}
-use Rattle.ec_start.specs.Laws.{IsScriptOfThree, AreUploads, AreDownloads, UploadsComeFirst, CountersRunToSeven, EndedStays, PlansStay, PollsEnd, ForeignChangesNothing, FramesAreAnswered}
+use Rattle.ec_start.specs.Laws.{IsScriptOfThree, AreUploads, AreDownloads, UploadsComeFirst, CountersRunToSeven, EndedStays, HasSamePlan, PlansStay, PollsEnd, ForeignChangesNothing, FramesAreAnswered}
 
 pub script_of_three : IsScriptOfThree
 script_of_three = record { steps = refl; ninth = refl; tenth = refl }
@@ -101,57 +100,67 @@ ended_stays s e =
 
 -- ---- the plan
 
-asked_plan : (s : StartState) (p : Phase) → (asked_by s p).plan ≡ s.plan
+unchanged : (s : StartState) → HasSamePlan s s
+unchanged s = record { plan = refl; feeds = refl }
+
+asked_plan : (s : StartState) (p : Phase) → HasSamePlan s (asked_by s p)
 asked_plan s Idle = go (s.next == last_number)
   where
-    go : (b : Bool) → (let t : StartState = if b then record s { phase = Failed NumbersSpent } else sending s in t.plan) ≡ s.plan
-    go true = refl
-    go false = refl
-asked_plan s (Sent number) = refl
-asked_plan s Ready = refl
-asked_plan s (Failed error) = refl
+    go : (b : Bool) → HasSamePlan s (if b then record s { phase = Failed NumbersSpent } else sending s)
+    go true = record { plan = refl; feeds = refl }
+    go false = record { plan = refl; feeds = refl }
+asked_plan s (Sent number) = unchanged s
+asked_plan s Ready = unchanged s
+asked_plan s (Failed error) = unchanged s
 
-given_up_plan : (s : StartState) (p : Phase) → (given_up_by s p).plan ≡ s.plan
-given_up_plan s Idle = refl
-given_up_plan s (Sent number) = refl
-given_up_plan s Ready = refl
-given_up_plan s (Failed error) = refl
+given_up_plan : (s : StartState) (p : Phase) → HasSamePlan s (given_up_by s p)
+given_up_plan s Idle = record { plan = refl; feeds = refl }
+given_up_plan s (Sent number) = record { plan = refl; feeds = refl }
+given_up_plan s Ready = unchanged s
+given_up_plan s (Failed error) = unchanged s
 
-begun_plan : (ps : List SlavePlan) (number : ℕ) → (begun ps number).plan ≡ ps
+begun_plan : (s : StartState) (number : ℕ) → HasSamePlan s (begun s.plan s.feeds number)
 unfolding begun
-begun_plan ps number = refl
+begun_plan s number = record { plan = refl; feeds = refl }
 
-judged_plan : (s : StartState) (v : Verdict) → (judged s v).plan ≡ s.plan
-judged_plan s Next = refl
-judged_plan s (Word value) = refl
-judged_plan s (Fails error) = refl
+judged_plan : (s : StartState) (v : Verdict) → HasSamePlan s (judged s v)
+judged_plan s Next = record { plan = refl; feeds = refl }
+judged_plan s (Word value) = record { plan = refl; feeds = refl }
+judged_plan s Fed = record { plan = refl; feeds = refl }
+judged_plan s (Fails error) = record { plan = refl; feeds = refl }
 judged_plan s Again = go (s.polls + 1 == max_polls)
   where
-    go : (b : Bool) → (let t : StartState = if b then record s { phase = Failed (TooSlow s.place) } else record s { polls = s.polls + 1; phase = Idle } in t.plan) ≡ s.plan
-    go true = refl
-    go false = refl
+    go : (b : Bool) → HasSamePlan s (if b then record s { phase = Failed (TooSlow s.place) } else record s { fed = 0; polls = s.polls + 1; phase = Idle })
+    go true = record { plan = refl; feeds = refl }
+    go false = record { plan = refl; feeds = refl }
+
+taken_same : (s : StartState) (d : Datagram) → HasSamePlan s (taken s d)
+taken_same s d = judged_plan s (verdict (length s.plan) s.place s.seen (type_of s.plan) (action_of s) d)
 
 pub taken_plan : (s : StartState) (d : Datagram) → (taken s d).plan ≡ s.plan
-taken_plan s d = judged_plan s (verdict (length s.plan) s.place s.seen (type_of s.plan) (action_of s) d)
+taken_plan s d = (taken_same s d).plan
+
+pub taken_feeds : (s : StartState) (d : Datagram) → (taken s d).feeds ≡ s.feeds
+taken_feeds s d = (taken_same s d).feeds
 
 second_there : (ds : List Datagram) (x y : Shape) → map shape ds ≡ x ∷ y ∷ [] → (d : Datagram) × (second ds ≡ Some d)
 second_there [] x y e = absurd cc
 second_there (d ∷ []) x y e = absurd cc
 second_there (d ∷ b ∷ ds) x y e = (b, refl)
 
-take_plan : (s new : StartState) (payload : List ℕ) (b : Bool) → IsStartTaken s payload b new → new.plan ≡ s.plan
+take_plan : (s new : StartState) (payload : List ℕ) (b : Bool) → IsStartTaken s payload b new → HasSamePlan s new
 take_plan s new payload true h =
     let o = h.only refl in
     let d = second_there o.frame.datagrams _ _ o.answer.shapes in
-    ap (λ (x : StartState). x.plan) (h.kept o.frame d.0 refl o.spelled d.1) ∙ taken_plan s d.0
-take_plan s new payload false h = ap (λ (x : StartState). x.plan) (h.foreign refl)
+    subst (HasSamePlan s) (sym (h.kept o.frame d.0 refl o.spelled d.1)) (taken_same s d.0)
+take_plan s new payload false h = subst (HasSamePlan s) (sym (h.foreign refl)) (unchanged s)
 
 pub plans_stay : PlansStay
 plans_stay s = record {
   next_keeps = asked_plan s s.phase;
   take_keeps = λ payload b new h. take_plan s new payload b h;
   give_up_keeps = given_up_plan s s.phase;
-  restart_keeps = begun_plan s.plan s.next;
+  restart_keeps = begun_plan s s.next;
 }
 
 -- ---- polls
@@ -159,6 +168,7 @@ plans_stay s = record {
 few_polls : (s : StartState) (v : Verdict) → s.polls < max_polls → (judged s v).polls < max_polls
 few_polls s Next lt = omega arith
 few_polls s (Word value) lt = omega arith
+few_polls s Fed lt = lt
 few_polls s (Fails error) lt = lt
 few_polls s Again lt = elim (cases_Bool (s.polls + 1 == max_polls)) [
   | inl t ↦ rw t lt

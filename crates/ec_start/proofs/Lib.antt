@@ -20,3 +20,7 @@ pub mod FullScripts
 pub mod Startable
 -- the script of a plan that can be started up is short
 pub mod ScriptLengths
+-- the parts that a start-up feeds
+pub mod Feedings
+-- without `hardware` a start-up sends what it sent before
+pub mod PlainLaw

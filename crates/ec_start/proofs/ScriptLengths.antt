@@ -4,6 +4,7 @@ use Rattle.std.specs.List.{flat_map}
 use Rattle.ec_device.specs.declared.slave_type.Entry.{Entry}
 use Rattle.ec_device.specs.declared.slave_type.Pdo.{Pdo}
 use Rattle.ec_device.specs.declared.slave_type.Mailbox.{Mailbox}
+use Rattle.ec_device.specs.declared.hardware.Hardware.{Hardware}
 use Rattle.ec_device.specs.Objects.{pdo_at}
 use Rattle.ec_al.specs.declared.state.State.TheVariants.{PreOp, SafeOp, Op}
 use Rattle.ec_coe.specs.Objects.{byte_value, output_assignment, input_assignment, has_some}
@@ -11,11 +12,11 @@ use Rattle.ec_link.specs.declared.settings.SlavePlan.{SlavePlan}
 use Rattle.ec_link.specs.Meaning.{no_slave}
 use Rattle.ec_start.specs.declared.action.SdoRequest.{SdoRequest}
 use Rattle.ec_start.specs.declared.action.Action.{Action}
-use Rattle.ec_start.specs.declared.action.Action.TheVariants.{SetManager}
+use Rattle.ec_start.specs.declared.action.Action.TheVariants.{AwaitCleanInit}
 use Rattle.ec_start.specs.Plans.{settings_at, fmmu_at}
 use Rattle.ec_start.specs.Planned.{AreRequests, IsStartable}
 use Rattle.ec_start.specs.Interface.{ScriptsAreShort}
-use Rattle.ec_start.specs.Scripts.{downloads, entries_read, pdo_read, slots_written, assignment_written, requests, named, identified, mailbox_set, raised, exchanged, talked, manager_set, fmmu_set, mapped, each_slave, cleared}
+use Rattle.ec_start.specs.Scripts.{downloads, entries_read, pdo_read, slots_written, assignment_written, requests, is_hardware, named, settled_by, settled, identified, mailbox_set, raised, exchanged, talked, set_manager, manager_set, fmmu_set, mapped, each_slave, opened, closed}
 use Rattle.ec_start.proofs.Assigned.{has_few}
 
 both_few : {X : Type 0} (xs ys : List X) {a b : ℕ} → length xs ≤ a → length ys ≤ b → length (xs ++ ys) ≤ a + b
@@ -93,7 +94,7 @@ set_few i p None = omega arith
 set_few i p (Some b) = omega arith
 
 manager_few : (i : ℕ) (p : SlavePlan) (n : ℕ) → length (manager_set i p n) ≤ 1
-manager_few i p n = go ((settings_at p.managers n).activate == 0) (SetManager i n (settings_at p.managers n))
+manager_few i p n = go ((settings_at p.managers n).activate == 0) (set_manager i p n)
   where
     go : (b : Bool) (a : Action) → length (if b then [] else a ∷ []) ≤ 1
     go true a = omega arith
@@ -110,6 +111,24 @@ mapped_few i p =
     let fmmus = both_few first second (fmmu_few i p 0 (fmmu_at p.fmmus 0).active) (fmmu_few i p 1 (fmmu_at p.fmmus 1).active) in
     let all = both_few (manager_set i p 2) (manager_set i p 3 ++ (first ++ second)) (manager_few i p 2) (both_few (manager_set i p 3) (first ++ second) (manager_few i p 3) fmmus) in
     omega (arith, all)
+
+settled_few : (i : ℕ) (o : Option Hardware) → length (settled_by i o) ≤ 1
+settled_few i None = omega arith
+settled_few i (Some h) = go h.has_firmware
+  where
+    go : (b : Bool) → length (if b then AwaitCleanInit i ∷ [] else []) ≤ 1
+    go true = omega arith
+    go false = omega arith
+
+-- ---- what is for all slaves
+
+opened_few : (hardware : Bool) → length (opened hardware) ≤ 8
+opened_few true = omega arith
+opened_few false = omega arith
+
+closed_few : (hardware : Bool) → length (closed hardware) ≤ 1
+closed_few true = omega arith
+closed_few false = omega arith
 
 -- ---- the whole script
 
@@ -131,6 +150,8 @@ scripts_are_short (p ∷ ps) h =
     let sets = each_slave (λ i x. mailbox_set i x x.kind.mailbox) 0 qs in
     let reads = each_slave identified 0 qs in
     let names = each_slave named 0 qs in
+    let settles = each_slave settled 0 qs in
+    let back = closed (is_hardware qs) in
     let from_safes = both_few safes ups (each_few (raised SafeOp) 2 0 qs (λ j k l. omega arith)) (each_few (raised Op) 2 0 qs (λ j k l. omega arith)) in
     let from_maps = both_few maps (safes ++ ups) (each_few mapped 4 0 qs (λ j k l. mapped_few j (get_or qs k no_slave))) from_safes in
     let from_talks = both_few talks (maps ++ (safes ++ ups))
@@ -138,7 +159,10 @@ scripts_are_short (p ∷ ps) h =
     let from_raises = both_few raises (talks ++ (maps ++ (safes ++ ups))) (each_few (raised PreOp) 2 0 qs (λ j k l. omega arith)) from_talks in
     let from_sets = both_few sets (raises ++ (talks ++ (maps ++ (safes ++ ups))))
     (each_few (λ i x. mailbox_set i x x.kind.mailbox) 2 0 qs (λ j k l. set_few j (get_or qs k no_slave) (get_or qs k no_slave).kind.mailbox)) from_raises in
-    let from_reads = both_few reads (sets ++ (raises ++ (talks ++ (maps ++ (safes ++ ups))))) (each_few identified 6 0 qs (λ j k l. omega arith)) from_sets in
-    let from_names = both_few names (reads ++ (sets ++ (raises ++ (talks ++ (maps ++ (safes ++ ups)))))) (each_few named 1 0 qs (λ j k l. omega arith)) from_reads in
-    let all = length-append cleared (names ++ (reads ++ (sets ++ (raises ++ (talks ++ (maps ++ (safes ++ ups))))))) in
-    omega (arith, from_names, all)
+    let from_back = both_few back (sets ++ (raises ++ (talks ++ (maps ++ (safes ++ ups))))) (closed_few (is_hardware qs)) from_sets in
+    let from_reads = both_few reads (back ++ (sets ++ (raises ++ (talks ++ (maps ++ (safes ++ ups)))))) (each_few identified 6 0 qs (λ j k l. omega arith)) from_back in
+    let from_settles = both_few settles (reads ++ (back ++ (sets ++ (raises ++ (talks ++ (maps ++ (safes ++ ups)))))))
+    (each_few settled 1 0 qs (λ j k l. settled_few j (get_or qs k no_slave).kind.hardware)) from_reads in
+    let from_names = both_few names (settles ++ (reads ++ (back ++ (sets ++ (raises ++ (talks ++ (maps ++ (safes ++ ups)))))))) (each_few named 1 0 qs (λ j k l. omega arith)) from_settles in
+    let all = both_few (opened (is_hardware qs)) (names ++ (settles ++ (reads ++ (back ++ (sets ++ (raises ++ (talks ++ (maps ++ (safes ++ ups))))))))) (opened_few (is_hardware qs)) from_names in
+    omega (arith, all)

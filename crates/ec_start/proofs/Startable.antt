@@ -1,5 +1,5 @@
 -- A slave of a plan, of a type of its table, can be started up.
-use Rattle.std.proofs.Common.{◌≡◌, ℕ, zero, suc, ◌+◌, ◌<◌, ◌≤◌, ◌==◌, ◌⊎◌, Bool, true, false, if◌then◌else◌, List, [], ◌∷◌, ◌++◌, length, get_or, refl, sym, ap, ◌∙◌, subst, arith, inl, inr, Some, Option, eqb, All}
+use Rattle.std.proofs.Common.{◌≡◌, ℕ, zero, suc, ◌+◌, ◌<◌, ◌≤◌, ◌==◌, ◌⊎◌, Bool, true, false, if◌then◌else◌, List, [], ◌∷◌, ◌++◌, length, get_or, refl, sym, ap, ◌∙◌, subst, arith, inl, inr, Some, None, Option, eqb, All}
 use Rattle.std.specs.List.{flat_map}
 use Rattle.std.proofs.lemmas.Bool.{cases_Bool, cases_lt, false≢true}
 use Rattle.ec_bits.specs.Bits.{within, bytes_of_bits}
@@ -8,7 +8,11 @@ use Rattle.ec_regs.specs.declared.manager.SyncManagerSettings.{SyncManagerSettin
 use Rattle.ec_device.specs.declared.slave_type.Mailbox.{Mailbox}
 use Rattle.ec_device.specs.declared.slave_type.Entry.{Entry}
 use Rattle.ec_device.specs.declared.slave_type.Pdo.{Pdo}
-use Rattle.ec_regs.specs.Managers.{no_settings, area_settings, is_set, span, mailbox_out_control, mailbox_in_control, outputs_control, inputs_control}
+use Rattle.ec_regs.specs.Managers.{no_settings, area_settings, is_set, span, mailbox_out_control, mailbox_in_control}
+use Rattle.ec_device.specs.declared.hardware.Hardware.{Hardware}
+use Rattle.ec_device.specs.Hardware.{IsHardware, fmmu_count, in_manager, out_manager}
+use Rattle.ec_device.proofs.Naming.{numbered_law}
+use Rattle.std.specs.Option.{ForSome}
 use Rattle.ec_device.specs.Types.{IsMailbox, IsPdo, ArePdos, first_output_index, first_input_index}
 use Rattle.ec_table.specs.Pdos.{indices_of}
 use Rattle.ec_table.specs.Sound as table
@@ -138,6 +142,10 @@ boxes b m0 m1 good e0 e1 s0 s1 apart =
       no_inputs = refl;
     }))
 
+enough-fmmus : (mailbox : Option Mailbox) (o : Option Hardware) → ForSome o (IsHardware mailbox) → 2 ≤ fmmu_count o
+enough-fmmus mailbox None h = omega arith
+enough-fmmus mailbox (Some k) h = (h k refl).some_fmmus
+
 -- ---- a slave of a plan
 
 pub startable : PlannedSlavesAreStartable
@@ -149,19 +157,22 @@ startable x ms listed type plain =
     record {
       m0 = manager_of x 0;
       m1 = manager_of x 1;
-      m2 = process_manager x.kind.out_start x.share.outs outputs_control;
-      m3 = process_manager x.kind.in_start x.share.ins inputs_control;
+      m2 = process_manager x.kind.out_start x.share.outs (out_manager x.kind.hardware).control;
+      m3 = process_manager x.kind.in_start x.share.ins (in_manager x.kind.hardware).control;
       managers = listed.managers;
       f0 = fmmu_of x 0;
       f1 = fmmu_of x 1;
       fmmus = listed.fmmus;
       no_mailbox = λ e. (ms.receive ∙ ap receive_manager e, ms.send ∙ ap send_manager e);
       mailbox = λ b e. boxes b (manager_of x 0) (manager_of x 1) (type.limits.mailbox b e) (ms.receive ∙ ap receive_manager e) (ms.send ∙ ap send_manager e) (ms.in_ram 0 (omega arith)) (ms.in_ram 1 (omega arith)) (λ a p q. ms.apart 0 1 a (omega arith) (omega arith) p q);
-      no_outputs = unset-process x.kind.out_start x.share.outs outputs_control;
-      no_inputs = unset-process x.kind.in_start x.share.ins inputs_control;
+      no_outputs = unset-process x.kind.out_start x.share.outs (out_manager x.kind.hardware).control;
+      no_inputs = unset-process x.kind.in_start x.share.ins (in_manager x.kind.hardware).control;
       no_out_fmmu = plain.idle 0 (omega arith);
       no_in_fmmu = plain.idle 1 (omega arith);
       readable = plain.readable;
+      numbered = numbered_law x.kind.mailbox x.kind.hardware type.hardware;
+      has_fmmus = enough-fmmus x.kind.mailbox x.kind.hardware type.hardware;
+      faceless = type.faceless;
       requests = good-append (flat_map (λ index. pdo_read (pdo_at x.kind.outputs index)) x.outputs) _ (read-good first_output_index x.kind.outputs (omega arith) outs.each x.outputs)
           (good-append (flat_map (λ index. pdo_read (pdo_at x.kind.inputs index)) x.inputs) _ (read-good first_input_index x.kind.inputs (omega arith) ins.each x.inputs)
           (good-append (assignment_written output_assignment x.outputs (has_some x.kind.outputs)) _ (written-good output_assignment x.outputs (has_some x.kind.outputs) (omega arith) few_outs (low-assigned first_output_index x.kind.mailbox x.kind.outputs x.outputs (omega arith) outs type.outputs))

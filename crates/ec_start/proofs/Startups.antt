@@ -1,21 +1,24 @@
 -- The step of a start-up and its place in the script.
-use Rattle.std.proofs.Common.{◌≡◌, ℕ, zero, suc, ◌+◌, ◌<◌, ◌≤◌, List, [], ◌∷◌, length, drop, map, get_or, slice_get, Some, None, Bool, true, false, nat_lt, refl, sym, ap, subst, ◌∙◌, arith}
+use Rattle.std.proofs.Common.{◌≡◌, ℕ, zero, suc, ◌+◌, ◌<◌, ◌≤◌, List, [], ◌∷◌, length, drop, map, get_or, slice_get, Option, Some, None, Bool, true, false, if◌then◌else◌, nat_lt, refl, sym, ap, subst, ◌∙◌, arith}
 use Rattle.std.proofs.lemmas.Bool.{lt-ltb, le-ltb}
+use Rattle.ec_bits.proofs.AnyLaws.{if_true, if_false}
 use Rattle.ec_coe.specs.Objects.{has_some}
 use Rattle.ec_frame.specs.Datagram.{Datagram}
 use Rattle.ec_frame.specs.Frame.{Payload, IsFrame}
 use Rattle.ec_frame.proofs.FrameOrFault.{one_payload}
 use Rattle.ec_device.specs.declared.slave_type.Device.{Device}
+use Rattle.ec_start.specs.declared.verdict.WantedDevice.{WantedDevice}
 use Rattle.ec_link.specs.declared.settings.SlavePlan.{SlavePlan}
 use Rattle.ec_start.specs.declared.action.Action.{Action}
-use Rattle.ec_start.specs.declared.action.Action.TheVariants.{CountSlaves, AskInit, AwaitInit, ClearFmmus, ClearManagers, ClearStations, NameSlave, AskWord, AwaitWord, SetManager, SetFmmu, AskState, AwaitState, SendRequest, AwaitReply}
+use Rattle.ec_start.specs.declared.action.Action.TheVariants.{CountSlaves, AskInit, AwaitInit, ClearFmmus, ClearManagers, ClearStations, NameSlave, AskWord, AwaitWord, SetManager, SetFmmu, AskState, AwaitState, SendRequest, AwaitReply, AwaitInitState, ClearAllFmmus, ClearAllManagers, AssignSii, ClearSiiError, AwaitCleanInit, FeedPart}
+use Rattle.ec_start.specs.declared.action.Feed.{Feed}
 use Rattle.ec_start.specs.declared.phase.Phase.{Phase}
 use Rattle.ec_start.specs.declared.phase.Phase.TheVariants.{Idle, Sent, Ready, Failed}
 use Rattle.ec_start.specs.declared.script.Step.{Step}
 use Rattle.ec_start.specs.Actions.{frame_of}
-use Rattle.ec_start.specs.Scripts.{script}
+use Rattle.ec_start.specs.Scripts.{is_hardware, script}
 use Rattle.ec_start.specs.Verdicts.{verdict}
-use Rattle.ec_start.specs.Running.{StartState, is_sent, is_ended, with_identity, action_of, type_of, judged, shape, IsStartAnswer, IsStartTaken, second}
+use Rattle.ec_start.specs.Running.{StartState, is_sent, is_ended, with_identity, step_of, is_fed, feed_or, action_of, type_of, judged, shape, IsStartAnswer, IsStartTaken, second}
 use Rattle.ec_start.specs.Ahead.{opening, ahead, IsSettled}
 use Rattle.ec_start.specs.Answered.{answered, Answers, IsAnswerIn}
 use Rattle.ec_start.specs.Held.{first_step, IsAtStep}
@@ -54,12 +57,12 @@ none_of_drop (z ∷ zs) (suc k) e = let h = none_of_drop zs k e in omega (arith,
 
 -- ---- the step
 
-first_here : (b : Bool) → slice_get (opening b) 0 ≡ Some CountSlaves
-first_here true = refl
-first_here false = refl
+first_here : (b hardware : Bool) → slice_get (opening b hardware) 0 ≡ Some CountSlaves
+first_here true hardware = refl
+first_here false hardware = refl
 
 pub begins : (ps : List SlavePlan) → IsAtStep ps 0 first_step
-begins ps = record { ahead_is = sym (script_ahead ps); here = first_here (has_some ps); doable = tt; low = omega arith; small = omega arith }
+begins ps = record { ahead_is = sym (script_ahead ps); here = first_here (has_some ps) (is_hardware ps); doable = tt; low = omega arith; small = omega arith }
 
 stands : (ps : List SlavePlan) (place : ℕ) (s : Step) → IsAtStep ps place s → drop place (script ps) ≡ s.action ∷ ahead ps (record s.cursor { place = s.cursor.place + 1 })
 stands ps place s h = sym h.ahead_is ∙ ahead_here ps s.cursor s.action h.here
@@ -118,17 +121,66 @@ shown_else s ClearStations value ne = refl
 shown_else s (NameSlave i) value ne = refl
 shown_else s (AskWord i which) value ne = refl
 shown_else s (AwaitWord i which) value ne = absurd (ne i which refl)
-shown_else s (SetManager i k m) value ne = refl
-shown_else s (SetFmmu i k f) value ne = refl
+shown_else s (SetManager i k m r) value ne = refl
+shown_else s (SetFmmu i k f start) value ne = refl
 shown_else s (AskState i state) value ne = refl
 shown_else s (AwaitState i state) value ne = refl
 shown_else s (SendRequest i before b r) value ne = refl
 shown_else s (AwaitReply i b r) value ne = refl
+shown_else s AwaitInitState value ne = refl
+shown_else s ClearAllFmmus value ne = refl
+shown_else s ClearAllManagers value ne = refl
+shown_else s (AssignSii access) value ne = refl
+shown_else s ClearSiiError value ne = refl
+shown_else s (AwaitCleanInit i) value ne = refl
+shown_else s (FeedPart f) value ne = refl
+
+-- a part that is fed shows nothing, and neither does the step that it is fed for
+shown_feed : (s : StartState) (a : Action) (o : Option Feed) (value : ℕ) → is_fed a ≡ true → with_identity s (feed_or o a) value ≡ with_identity s a value
+shown_feed s a None value t = refl
+shown_feed s (AskState i state) (Some f) value t = refl
+shown_feed s (AwaitState i state) (Some f) value t = refl
+shown_feed s CountSlaves (Some f) value t = refl
+shown_feed s AskInit (Some f) value t = refl
+shown_feed s AwaitInit (Some f) value t = refl
+shown_feed s ClearFmmus (Some f) value t = refl
+shown_feed s ClearManagers (Some f) value t = refl
+shown_feed s ClearStations (Some f) value t = refl
+shown_feed s (NameSlave i) (Some f) value t = refl
+shown_feed s (AskWord i which) (Some f) value t = refl
+shown_feed s (AwaitWord i which) (Some f) value t = absurd (let g : false ≡ true = t in cc)
+shown_feed s (SetManager i k m r) (Some f) value t = refl
+shown_feed s (SetFmmu i k m start) (Some f) value t = refl
+shown_feed s (SendRequest i before b r) (Some f) value t = refl
+shown_feed s (AwaitReply i b r) (Some f) value t = refl
+shown_feed s AwaitInitState (Some f) value t = refl
+shown_feed s ClearAllFmmus (Some f) value t = refl
+shown_feed s ClearAllManagers (Some f) value t = refl
+shown_feed s (AssignSii access) (Some f) value t = refl
+shown_feed s ClearSiiError (Some f) value t = refl
+shown_feed s (AwaitCleanInit i) (Some f) value t = refl
+shown_feed s (FeedPart g) (Some f) value t = refl
+
+shown_if : (s : StartState) (value : ℕ) (b : Bool) → is_fed (step_of s) ≡ b → with_identity s (if b then feed_or (slice_get s.feeds s.fed) (step_of s) else step_of s) value ≡ with_identity s (step_of s) value
+shown_if s value true t = shown_feed s (step_of s) (slice_get s.feeds s.fed) value t
+shown_if s value false t = refl
+
+pub shown_fed : (s : StartState) (value : ℕ) → with_identity s (action_of s) value ≡ with_identity s (step_of s) value
+shown_fed s value = shown_if s value (is_fed (step_of s)) refl
+
+-- ---- its next frame
+
+-- while a step isn't fed, or no part is left, its next frame is the step's own
+pub own_action : (s : StartState) → is_fed (step_of s) ≡ false → action_of s ≡ step_of s
+own_action s f = if_false (is_fed (step_of s)) (feed_or (slice_get s.feeds s.fed) (step_of s)) (step_of s) f
+
+pub fed_action : (s : StartState) (o : Option Feed) → is_fed (step_of s) ≡ true → slice_get s.feeds s.fed ≡ o → action_of s ≡ feed_or o (step_of s)
+fed_action s o t e = if_true (is_fed (step_of s)) (feed_or (slice_get s.feeds s.fed) (step_of s)) (step_of s) t ∙ ap (λ (x : Option Feed). feed_or x (step_of s)) e
 
 -- ---- what is taken
 
 -- a verdict looks at the counter and the data alone
-verdict_of : (n step : ℕ) (s : Device) (types : ℕ → Device) (a : Action) (d : Datagram) → verdict n step s types a (answered d.counter d.data_bytes) ≡ verdict n step s types a d
+verdict_of : (n step : ℕ) (s : Device) (types : ℕ → WantedDevice) (a : Action) (d : Datagram) → verdict n step s types a (answered d.counter d.data_bytes) ≡ verdict n step s types a d
 verdict_of n step s types CountSlaves d = refl
 verdict_of n step s types AskInit d = refl
 verdict_of n step s types AwaitInit d = refl
@@ -138,12 +190,19 @@ verdict_of n step s types ClearStations d = refl
 verdict_of n step s types (NameSlave i) d = refl
 verdict_of n step s types (AskWord i which) d = refl
 verdict_of n step s types (AwaitWord i which) d = refl
-verdict_of n step s types (SetManager i k m) d = refl
-verdict_of n step s types (SetFmmu i k f) d = refl
+verdict_of n step s types (SetManager i k m r) d = refl
+verdict_of n step s types (SetFmmu i k f start) d = refl
 verdict_of n step s types (AskState i state) d = refl
 verdict_of n step s types (AwaitState i state) d = refl
 verdict_of n step s types (SendRequest i before b r) d = refl
 verdict_of n step s types (AwaitReply i b r) d = refl
+verdict_of n step s types AwaitInitState d = refl
+verdict_of n step s types ClearAllFmmus d = refl
+verdict_of n step s types ClearAllManagers d = refl
+verdict_of n step s types (AssignSii access) d = refl
+verdict_of n step s types ClearSiiError d = refl
+verdict_of n step s types (AwaitCleanInit i) d = refl
+verdict_of n step s types (FeedPart f) d = refl
 
 answer_of : (s : StartState) (a : Action) (number : ℕ) (ds : List Datagram) → action_of s ≡ a → Answers a number ds → IsStartAnswer s number ds
 answer_of s a number ds is h = record { shapes = h.shapes ∙ ap (λ (b : Action). map shape (frame_of b number)) (sym is); number_is = h.number_is }

@@ -3,13 +3,13 @@ use Rattle.std.specs.Prelude.{ℕ, ◌+◌, ◌*◌, ◌-◌, ◌≡◌, ◌≤�
 use Rattle.ec_al.specs.declared.state.State.TheVariants.{PreOp, SafeOp, Op}
 use Rattle.ec_link.specs.declared.settings.SlavePlan.{SlavePlan}
 use Rattle.ec_start.specs.declared.action.Action.{Action}
-use Rattle.ec_start.specs.declared.action.Action.TheVariants.{CountSlaves, SetManager, SetFmmu}
+use Rattle.ec_start.specs.declared.action.Action.TheVariants.{CountSlaves}
 use Rattle.ec_start.specs.declared.script.Stretch.{Stretch}
-use Rattle.ec_start.specs.declared.script.Stretch.TheVariants.{Opening, Naming, Identifying, Mailboxes, ToPreOp, Talking, Mapping, ToSafeOp, ToOp}
+use Rattle.ec_start.specs.declared.script.Stretch.TheVariants.{Opening, Naming, Settling, Identifying, Closing, Mailboxes, ToPreOp, Talking, Mapping, ToSafeOp, ToOp}
 use Rattle.ec_start.specs.declared.script.Cursor.{Cursor}
 use Rattle.ec_start.specs.declared.script.Step.{Step}
 use Rattle.ec_start.specs.Plans.{settings_at, fmmu_at}
-use Rattle.ec_start.specs.Scripts.{named, identified, mailbox_set, raised, talked, mapped, cleared, each_slave}
+use Rattle.ec_start.specs.Scripts.{is_hardware, set_manager, set_fmmu, named, settled, identified, mailbox_set, raised, talked, mapped, opened, closed, each_slave}
 use Rattle.ec_coe.specs.Objects.{has_some}
 use Rattle.ec_start.specs.Doable.{IsDoable}
 
@@ -17,7 +17,9 @@ use Rattle.ec_start.specs.Doable.{IsDoable}
 abbrev pub share : Stretch → ℕ → SlavePlan → List Action
 share Opening = λ i p. []
 share Naming = named
+share Settling = settled
 share Identifying = identified
+share Closing = λ i p. []
 share Mailboxes = λ i p. mailbox_set i p p.kind.mailbox
 share ToPreOp = raised PreOp
 share Talking = λ i p. talked i p p.kind.mailbox
@@ -26,9 +28,9 @@ share ToSafeOp = raised SafeOp
 share ToOp = raised Op
 
 -- without slaves, counting them is all
-abbrev pub opening : Bool → List Action
-opening false = CountSlaves ∷ []
-opening true = CountSlaves ∷ cleared
+abbrev pub opening : (has_slaves hardware : Bool) → List Action
+opening false hardware = CountSlaves ∷ []
+opening true hardware = CountSlaves ∷ opened hardware
 
 abbrev pub share_of : (ℕ → SlavePlan → List Action) → ℕ → Option SlavePlan → List Action
 share_of f i None = []
@@ -37,7 +39,9 @@ share_of f i (Some p) = f i p
 abbrev pub is_for_all : Stretch → Bool
 is_for_all Opening = true
 is_for_all Naming = false
+is_for_all Settling = false
 is_for_all Identifying = false
+is_for_all Closing = true
 is_for_all Mailboxes = false
 is_for_all ToPreOp = false
 is_for_all Talking = false
@@ -45,13 +49,21 @@ is_for_all Mapping = false
 is_for_all ToSafeOp = false
 is_for_all ToOp = false
 
+-- the actions of a stretch that is for all slaves at once
+abbrev pub for_all : Stretch → List SlavePlan → List Action
+for_all Opening ps = opening (has_some ps) (is_hardware ps)
+for_all Closing ps = closed (is_hardware ps)
+for_all _ ps = []
+
 abbrev pub share_at : Stretch → List SlavePlan → ℕ → List Action
-share_at st ps i = if is_for_all st then opening (has_some ps) else share_of (share st) i (slice_get ps i)
+share_at st ps i = if is_for_all st then for_all st ps else share_of (share st) i (slice_get ps i)
 
 abbrev pub following : Stretch → Option Stretch
 following Opening = Some Naming
-following Naming = Some Identifying
-following Identifying = Some Mailboxes
+following Naming = Some Settling
+following Settling = Some Identifying
+following Identifying = Some Closing
+following Closing = Some Mailboxes
 following Mailboxes = Some ToPreOp
 following ToPreOp = Some Talking
 following Talking = Some Mapping
@@ -61,7 +73,7 @@ following ToOp = None
 
 -- a whole stretch, and all stretches behind one
 abbrev pub whole : Stretch → List SlavePlan → List Action
-whole st ps = each_slave (share st) 0 ps
+whole st ps = if is_for_all st then for_all st ps else each_slave (share st) 0 ps
 
 abbrev pub later : Stretch → List SlavePlan → List Action
 later ToOp ps = []
@@ -70,9 +82,11 @@ later Mapping ps = whole ToSafeOp ps ++ whole ToOp ps
 later Talking ps = whole Mapping ps ++ (whole ToSafeOp ps ++ whole ToOp ps)
 later ToPreOp ps = whole Talking ps ++ (whole Mapping ps ++ (whole ToSafeOp ps ++ whole ToOp ps))
 later Mailboxes ps = whole ToPreOp ps ++ (whole Talking ps ++ (whole Mapping ps ++ (whole ToSafeOp ps ++ whole ToOp ps)))
-later Identifying ps = whole Mailboxes ps ++ (whole ToPreOp ps ++ (whole Talking ps ++ (whole Mapping ps ++ (whole ToSafeOp ps ++ whole ToOp ps))))
-later Naming ps = whole Identifying ps ++ (whole Mailboxes ps ++ (whole ToPreOp ps ++ (whole Talking ps ++ (whole Mapping ps ++ (whole ToSafeOp ps ++ whole ToOp ps)))))
-later Opening ps = whole Naming ps ++ (whole Identifying ps ++ (whole Mailboxes ps ++ (whole ToPreOp ps ++ (whole Talking ps ++ (whole Mapping ps ++ (whole ToSafeOp ps ++ whole ToOp ps))))))
+later Closing ps = whole Mailboxes ps ++ (whole ToPreOp ps ++ (whole Talking ps ++ (whole Mapping ps ++ (whole ToSafeOp ps ++ whole ToOp ps))))
+later Identifying ps = whole Closing ps ++ (whole Mailboxes ps ++ (whole ToPreOp ps ++ (whole Talking ps ++ (whole Mapping ps ++ (whole ToSafeOp ps ++ whole ToOp ps)))))
+later Settling ps = whole Identifying ps ++ (whole Closing ps ++ (whole Mailboxes ps ++ (whole ToPreOp ps ++ (whole Talking ps ++ (whole Mapping ps ++ (whole ToSafeOp ps ++ whole ToOp ps))))))
+later Naming ps = whole Settling ps ++ (whole Identifying ps ++ (whole Closing ps ++ (whole Mailboxes ps ++ (whole ToPreOp ps ++ (whole Talking ps ++ (whole Mapping ps ++ (whole ToSafeOp ps ++ whole ToOp ps)))))))
+later Opening ps = whole Naming ps ++ (whole Settling ps ++ (whole Identifying ps ++ (whole Closing ps ++ (whole Mailboxes ps ++ (whole ToPreOp ps ++ (whole Talking ps ++ (whole Mapping ps ++ (whole ToSafeOp ps ++ whole ToOp ps))))))))
 
 -- what is behind a slave's share, or behind the opening
 abbrev pub beyond : Stretch → List SlavePlan → ℕ → List Action
@@ -90,9 +104,11 @@ behind n c =
 
 -- how many stretches are behind
 abbrev pub rank : Stretch → ℕ
-rank Opening = 8
-rank Naming = 7
-rank Identifying = 6
+rank Opening = 10
+rank Naming = 9
+rank Settling = 8
+rank Identifying = 7
+rank Closing = 6
 rank Mailboxes = 5
 rank ToPreOp = 4
 rank Talking = 3
@@ -118,14 +134,11 @@ Settles ps c (Some s) = IsSettled ps c s
 
 -- ---- a share of actions that may be left out
 
-abbrev pub set_manager_of : ℕ → SlavePlan → ℕ → Action
-set_manager_of i p n = SetManager i n (settings_at p.managers n)
-
 abbrev pub manager_chosen : ℕ → SlavePlan → ℕ → Option Action
-manager_chosen i p n = if (settings_at p.managers n).activate == 0 then None else Some (set_manager_of i p n)
+manager_chosen i p n = if (settings_at p.managers n).activate == 0 then None else Some (set_manager i p n)
 
 abbrev pub fmmu_chosen : ℕ → SlavePlan → ℕ → Option Action
-fmmu_chosen i p n = if (fmmu_at p.fmmus n).active then Some (SetFmmu i n (fmmu_at p.fmmus n)) else None
+fmmu_chosen i p n = if (fmmu_at p.fmmus n).active then Some (set_fmmu i p n) else None
 
 -- what a mapping sets, as far as it is there
 abbrev pub choices : ℕ → SlavePlan → List (Option Action)

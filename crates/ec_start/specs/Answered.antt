@@ -1,4 +1,4 @@
--- What a verdict looks at: the counter and the data of a datagram. It serves private code and its proofs alone.
+-- What a verdict looks at: the counter and the data of a datagram; and which payloads answer an action.
 use Rattle.std.specs.Prelude.{ℕ, ◌≡◌, ◌==◌, List, ◌∷◌, [], false, if◌then◌else◌, map}
 use Rattle.std.specs.Int.{to_le_bytes, w64}
 use Rattle.ec_frame.specs.declared.command.Command.TheVariants.{Nop}

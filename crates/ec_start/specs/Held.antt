@@ -22,11 +22,13 @@ pub record IsAtStep (ps : List SlavePlan) (place : ℕ) (s : Step) : Type 0 wher
   pub low : s.cursor.slave ≤ 64
   pub small : s.cursor.place ≤ place
 
-pub record IsHeld (ps : List SlavePlan) (next place polls : ℕ) (phase : Phase) (s : Step) : Type 0 where
+pub record IsHeld (ps : List SlavePlan) (next place fed polls : ℕ) (phase : Phase) (s : Step) : Type 0 where
   pub assigned : All HasFewAssigned ps
-  -- each place took a number
+  -- each place took a number, and each part that was fed
   pub numbers : place ≤ next
+  pub fed_numbers : fed ≤ next
   pub fits : next < 2 ^ 64
   pub sent : is_sent phase ≡ true → place < next
+  pub fed_sent : is_sent phase ≡ true → fed < next
   pub polls_left : polls < max_polls
   pub at_step : is_ended phase ≡ false → IsAtStep ps place s

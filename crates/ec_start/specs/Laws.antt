@@ -72,12 +72,16 @@ pub record PollsEnd : Type 0 where
   pub last : (s : StartState) → s.polls + 1 ≡ max_polls → (judged s Again).phase ≡ Failed (TooSlow s.place)
   pub more : (s : StartState) → s.polls + 1 < max_polls → (judged s Again).polls ≡ s.polls + 1
 
--- A start-up keeps its plan, whatever is called.
+-- A start-up keeps its plan and the parts that it feeds, whatever is called.
+pub record HasSamePlan (s new : StartState) : Type 0 where
+  pub plan : new.plan ≡ s.plan
+  pub feeds : new.feeds ≡ s.feeds
+
 pub record KeepsPlan (s : StartState) : Type 0 where
-  pub next_keeps : (asked s).plan ≡ s.plan
-  pub take_keeps : (payload : List ℕ) (is_accepted : Bool) (new : StartState) → IsStartTaken s payload is_accepted new → new.plan ≡ s.plan
-  pub give_up_keeps : (given_up s).plan ≡ s.plan
-  pub restart_keeps : (restarted s).plan ≡ s.plan
+  pub next_keeps : HasSamePlan s (asked s)
+  pub take_keeps : (payload : List ℕ) (is_accepted : Bool) (new : StartState) → IsStartTaken s payload is_accepted new → HasSamePlan s new
+  pub give_up_keeps : HasSamePlan s (given_up s)
+  pub restart_keeps : HasSamePlan s (restarted s)
 
 abbrev pub PlansStay : Type 0
 PlansStay = (s : StartState) → KeepsPlan s

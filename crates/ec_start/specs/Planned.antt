@@ -1,8 +1,9 @@
 -- What a plan must be: the link compiler's plan of each slave is so.
-use Rattle.std.specs.Prelude.{ℕ, ◌+◌, ◌*◌, ◌^◌, ◌<◌, ◌≤◌, ◌≡◌, ◌⊎◌, ◌==◌, List, [], ◌∷◌, length, true, false, Some, None}
+use Rattle.std.specs.Prelude.{ℕ, ◌+◌, ◌*◌, ◌^◌, ◌<◌, ◌≤◌, ◌≡◌, ◌⊎◌, ◌==◌, List, [], ◌∷◌, length, true, false, Some, None, is_some}
 use Rattle.ec_regs.specs.declared.manager.SyncManagerSettings.{SyncManagerSettings}
 use Rattle.ec_regs.specs.declared.fmmu.FmmuSettings.{FmmuSettings}
 use Rattle.ec_device.specs.declared.slave_type.Mailbox.{Mailbox}
+use Rattle.ec_device.specs.Hardware.{AreNumbered, fmmu_count}
 use Rattle.ec_regs.specs.Managers.{no_settings, is_set, is_mailbox, is_master_written, is_master_read}
 use Rattle.ec_regs.specs.Fmmus.{no_fmmu}
 use Rattle.ec_coe.specs.Messages.{size_number}
@@ -71,6 +72,11 @@ pub record IsStartable (p : SlavePlan) : Type 0 where
   pub no_out_fmmu : f0.active ≡ false → f0 ≡ no_fmmu
   pub no_in_fmmu : f1.active ≡ false → f1 ≡ no_fmmu
   pub readable : (n : ℕ) → n < 4 → IsFmmu (fmmu_at p.fmmus n)
+  -- its registers have names, and it has an FMMU for each direction
+  pub numbered : AreNumbered p.kind.hardware
+  pub has_fmmus : 2 ≤ fmmu_count p.kind.hardware
+  -- with `hardware` it isn't full
+  pub faceless : is_some p.kind.hardware ≡ true → p.kind.face ≡ None
   pub requests : AreRequests (requests p)
   -- a slave without a mailbox has all its PDOs assigned, and none if its type has none
   pub all_assigned : p.kind.mailbox ≡ None → (p.outputs ≡ indices p.kind.outputs) × (p.inputs ≡ indices p.kind.inputs)

@@ -2,18 +2,23 @@
 use Rattle.std.specs.Prelude.{ℕ, ◌+◌, ◌-◌, ◌^◌, ◌≡◌, ◌==◌, ◌↔◌, List, [], ◌∷◌, length, map, take, get_or, Bool, true, false, if◌then◌else◌, nat_lt, slice_get, Option, Some, None, Result, Ok, Err}
 use Rattle.std.specs.Int.{to_le_bytes, w64}
 use Rattle.ec_device.specs.declared.slave_type.Device.{Device}
-use Rattle.ec_device.specs.Types.{plain_kind}
+use Rattle.ec_device.specs.Types.{SlaveKind, plain_kind}
+use Rattle.ec_device.specs.Hardware.{takes_any_revision}
+use Rattle.ec_al.specs.declared.state.State.{State}
+use Rattle.ec_al.specs.declared.state.State.TheVariants.{Init, PreOp, SafeOp, Op}
 use Rattle.ec_frame.specs.Datagram.{Datagram}
 use Rattle.ec_frame.specs.Frame.{Payload, IsFrame}
 use Rattle.ec_frame.specs.Names.{name_of}
 pub use Rattle.ec_frame.specs.Names.{Shape, shape}
 use Rattle.ec_link.specs.declared.settings.SlavePlan.{SlavePlan}
 use Rattle.ec_start.specs.declared.action.Action.{Action}
-use Rattle.ec_start.specs.declared.action.Action.TheVariants.{CountSlaves, AwaitWord}
+use Rattle.ec_start.specs.declared.action.Action.TheVariants.{CountSlaves, AwaitWord, AskState, AwaitState, FeedPart}
+use Rattle.ec_start.specs.declared.action.Feed.{Feed}
 use Rattle.ec_start.specs.declared.error.StartError.{StartError}
 use Rattle.ec_start.specs.declared.error.StartError.TheVariants.{TooSlow, Lost, NumbersSpent}
 use Rattle.ec_start.specs.declared.verdict.Verdict.{Verdict}
-use Rattle.ec_start.specs.declared.verdict.Verdict.TheVariants.{Next, Word, Again, Fails}
+use Rattle.ec_start.specs.declared.verdict.Verdict.TheVariants.{Next, Word, Fed, Again, Fails}
+use Rattle.ec_start.specs.declared.verdict.WantedDevice.{WantedDevice}
 use Rattle.ec_start.specs.declared.phase.Phase.{Phase}
 use Rattle.ec_start.specs.declared.phase.Phase.TheVariants.{Idle, Sent, Ready, Failed}
 use Rattle.ec_start.specs.declared.phase.NextFrame.{NextFrame}
@@ -27,10 +32,14 @@ use Rattle.ec_start.specs.Verdicts.{nothing_read, with_word, verdict}
 -- the value of a `Startup`
 pub record StartState : Type 0 where
   pub plan : List SlavePlan
+  -- the parts whose outputs are fed with zeros before a frame that asks for OP or looks for it; none without `hardware`
+  pub feeds : List Feed
   -- the number of the next frame
   pub next : ℕ
   -- the place in the script
   pub place : ℕ
+  -- how many of the parts were fed before the frame of this place that comes next
+  pub fed : ℕ
   -- how many polls of the wait there have been
   pub polls : ℕ
   -- what was read of the identity so far
@@ -38,20 +47,43 @@ pub record StartState : Type 0 where
   pub phase : Phase
 
 -- as it begins: no frame was sent
-unfoldable pub begun : List SlavePlan → ℕ → StartState
-begun plan number = record { plan = plan; next = number; place = 0; polls = 0; seen = nothing_read; phase = Idle }
+unfoldable pub begun : List SlavePlan → List Feed → ℕ → StartState
+begun plan feeds number = record { plan = plan; feeds = feeds; next = number; place = 0; fed = 0; polls = 0; seen = nothing_read; phase = Idle }
 
--- the action that it is at
+-- the action of the step that it is at
+abbrev pub step_of : StartState → Action
+step_of s = get_or (script s.plan) s.place CountSlaves
+
+-- whether parts are fed before each frame of an action: it asks for OP, or looks for it
+abbrev pub is_op : State → Bool
+is_op Op = true
+is_op Init = false
+is_op PreOp = false
+is_op SafeOp = false
+
+abbrev pub is_fed : Action → Bool
+is_fed (AskState i state) = is_op state
+is_fed (AwaitState i state) = is_op state
+is_fed _ = false
+
+abbrev pub feed_or : Option Feed → Action → Action
+feed_or None a = a
+feed_or (Some f) a = FeedPart f
+
+-- what its next frame does: it feeds the next part, or else is the step's own
 abbrev pub action_of : StartState → Action
-action_of s = get_or (script s.plan) s.place CountSlaves
+action_of s = if is_fed (step_of s) then feed_or (slice_get s.feeds s.fed) (step_of s) else step_of s
 
--- the device of the type of slave i
-abbrev pub type_of : List SlavePlan → ℕ → Device
-type_of ps i = device_or (slice_get ps i)
+abbrev pub wanted_of : SlaveKind → WantedDevice
+wanted_of k = record { device = k.device; any_revision = takes_any_revision k.hardware }
+
+-- the device that slave i must be, by its type
+abbrev pub type_of : List SlavePlan → ℕ → WantedDevice
+type_of ps i = wanted_or (slice_get ps i)
   where
-    device_or : Option SlavePlan → Device
-    device_or None = plain_kind.device
-    device_or (Some p) = p.kind.device
+    wanted_or : Option SlavePlan → WantedDevice
+    wanted_or None = wanted_of plain_kind
+    wanted_or (Some p) = wanted_of p.kind
 
 -- ---- sending
 
@@ -90,6 +122,7 @@ next_frame s = next_frame_by s s.phase
 abbrev pub advanced : StartState → Device → StartState
 advanced s seen = record s {
   place = s.place + 1;
+  fed = 0;
   polls = 0;
   seen = seen;
   phase = if nat_lt (s.place + 1) (length (script s.plan)) then Idle else Ready;
@@ -106,7 +139,8 @@ max_polls = 1000
 abbrev pub judged : StartState → Verdict → StartState
 judged s Next = advanced s s.seen
 judged s (Word value) = advanced s (with_identity s (action_of s) value)
-judged s Again = if s.polls + 1 == max_polls then record s { phase = Failed (TooSlow s.place) } else record s { polls = s.polls + 1; phase = Idle }
+judged s Fed = record s { fed = s.fed + 1; phase = Idle }
+judged s Again = if s.polls + 1 == max_polls then record s { phase = Failed (TooSlow s.place) } else record s { fed = 0; polls = s.polls + 1; phase = Idle }
 judged s (Fails error) = record s { phase = Failed error }
 
 -- the returned datagram of the outstanding frame is taken
@@ -169,7 +203,7 @@ has_failed (Sent number) = false
 has_failed Ready = false
 
 abbrev pub restarted : StartState → StartState
-restarted s = begun s.plan s.next
+restarted s = begun s.plan s.feeds s.next
 
 abbrev pub is_ended : Phase → Bool
 is_ended Ready = true

@@ -4,20 +4,24 @@
 -- | Phase | Action for each slave | Here |
 -- |---|---|---|
 -- | 0 | the slaves are counted, by all | CountSlaves |
--- | 1 to 3 | INIT for all; FMMUs, managers and station addresses are cleared | cleared |
--- | 4 | it gets its station address | named |
--- | 5 | vendor, product and revision are read from its SII | identified |
+-- | 1 to 3 | INIT for all; FMMUs, managers and station addresses are cleared; with `hardware` more, and the SII is taken | opened |
+-- | 4 | it gets its station address; with `hardware` it is awaited without an error, if it has firmware | named, settled |
+-- | 5 | vendor, product and revision are read from its SII; with `hardware` the SII is given back, by all | identified, closed |
 -- | 6 | its mailboxes are set | mailbox_set |
 -- | 7 | it is led to PREOP | raised PreOp |
 -- | 8 | mappings are read back, then assignments are written | talked |
 -- | 9 | its process data managers and its FMMUs are set | mapped |
 -- | 10 | it is led to SAFEOP | raised SafeOp |
 -- | 11 | it is led to OP | raised Op |
-use Rattle.std.specs.Prelude.{ℕ, ◌+◌, ◌==◌, List, [], ◌∷◌, ◌++◌, length, Bool, true, false, if◌then◌else◌, Option, Some, None}
+use Rattle.std.specs.Prelude.{ℕ, ◌+◌, ◌==◌, List, [], ◌∷◌, ◌++◌, length, Bool, true, false, if◌then◌else◌, Option, Some, None, is_some}
 use Rattle.std.specs.List.{flat_map}
 use Rattle.ec_device.specs.declared.slave_type.Entry.{Entry}
 use Rattle.ec_device.specs.declared.slave_type.Pdo.{Pdo}
 use Rattle.ec_device.specs.declared.slave_type.Mailbox.{Mailbox}
+use Rattle.ec_device.specs.declared.hardware.Hardware.{Hardware}
+use Rattle.ec_device.specs.Hardware.{manager_number, other_name}
+use Rattle.ec_device.specs.Types.{SlaveKind}
+use Rattle.ec_regs.specs.declared.manager.SyncManagerSettings.{SyncManagerSettings}
 use Rattle.ec_al.specs.declared.state.State.{State}
 use Rattle.ec_al.specs.declared.state.State.TheVariants.{PreOp, SafeOp, Op}
 use Rattle.ec_device.specs.Objects.{pdo_at}
@@ -27,8 +31,15 @@ use Rattle.ec_start.specs.Plans.{settings_at, fmmu_at}
 use Rattle.ec_link.specs.declared.settings.SlavePlan.{SlavePlan}
 use Rattle.ec_start.specs.declared.action.Transfer.TheVariants.{Download, Upload}
 use Rattle.ec_start.specs.declared.action.SdoRequest.{SdoRequest}
+use Rattle.ec_start.specs.declared.action.ManagerRegister.{ManagerRegister}
 use Rattle.ec_start.specs.declared.action.Action.{Action}
-use Rattle.ec_start.specs.declared.action.Action.TheVariants.{CountSlaves, AskInit, AwaitInit, ClearFmmus, ClearManagers, ClearStations, NameSlave, AskWord, AwaitWord, SetManager, SetFmmu, AskState, AwaitState, SendRequest, AwaitReply}
+use Rattle.ec_start.specs.declared.action.Action.TheVariants.{CountSlaves, AskInit, AwaitInit, ClearFmmus, ClearManagers, ClearStations, NameSlave, AskWord, AwaitWord, SetManager, SetFmmu, AskState, AwaitState, SendRequest, AwaitReply, AwaitInitState, ClearAllFmmus, ClearAllManagers, AssignSii, ClearSiiError, AwaitCleanInit}
+use Rattle.ec_start.specs.declared.action.SiiAccess.TheVariants.{Master, Device, Forced}
+
+-- whether the plan is one of a table with `hardware`: then each of its types says what its devices are like, and else none does
+abbrev pub is_hardware : List SlavePlan → Bool
+is_hardware [] = false
+is_hardware (p ∷ ps) = is_some p.kind.hardware
 
 -- ---- the requests to one slave: uploads of each PDO that the plan assigns, then the downloads of both assignments
 
@@ -74,12 +85,30 @@ requests p =
 abbrev pub named : ℕ → SlavePlan → List Action
 named i p = NameSlave i ∷ []
 
+-- a slave without firmware may show an error that isn't one: its AL status is a copy of AL control
+abbrev pub settled_by : ℕ → Option Hardware → List Action
+settled_by i None = []
+settled_by i (Some h) = if h.has_firmware then AwaitCleanInit i ∷ [] else []
+
+abbrev pub settled : ℕ → SlavePlan → List Action
+settled i p = settled_by i p.kind.hardware
+
 abbrev pub identified : ℕ → SlavePlan → List Action
 identified i p = AskWord i 0 ∷ AwaitWord i 0 ∷ AskWord i 1 ∷ AwaitWord i 1 ∷ AskWord i 2 ∷ AwaitWord i 2 ∷ []
 
+-- the register of the manager of a role, as a device of the type has it
+abbrev pub register_of : SlaveKind → (place : ℕ) → SyncManagerSettings → ManagerRegister
+register_of kind place m = record { number = manager_number kind.hardware place; start = other_name kind.hardware m.start }
+
+abbrev pub set_manager : ℕ → SlavePlan → ℕ → Action
+set_manager i p n = SetManager i n (settings_at p.managers n) (register_of p.kind n (settings_at p.managers n))
+
+abbrev pub set_fmmu : ℕ → SlavePlan → ℕ → Action
+set_fmmu i p n = SetFmmu i n (fmmu_at p.fmmus n) (other_name p.kind.hardware (fmmu_at p.fmmus n).physical_start)
+
 abbrev pub mailbox_set : ℕ → SlavePlan → Option Mailbox → List Action
 mailbox_set i p None = []
-mailbox_set i p (Some b) = SetManager i 0 (settings_at p.managers 0) ∷ SetManager i 1 (settings_at p.managers 1) ∷ []
+mailbox_set i p (Some b) = set_manager i p 0 ∷ set_manager i p 1 ∷ []
 
 abbrev pub raised : State → ℕ → SlavePlan → List Action
 raised state i p = AskState i state ∷ AwaitState i state ∷ []
@@ -93,10 +122,10 @@ talked i p None = []
 talked i p (Some b) = exchanged i b 0 (requests p)
 
 abbrev pub manager_set : ℕ → SlavePlan → ℕ → List Action
-manager_set i p n = if (settings_at p.managers n).activate == 0 then [] else SetManager i n (settings_at p.managers n) ∷ []
+manager_set i p n = if (settings_at p.managers n).activate == 0 then [] else set_manager i p n ∷ []
 
 abbrev pub fmmu_set : ℕ → SlavePlan → ℕ → Bool → List Action
-fmmu_set i p n true = SetFmmu i n (fmmu_at p.fmmus n) ∷ []
+fmmu_set i p n true = set_fmmu i p n ∷ []
 fmmu_set i p n false = []
 
 abbrev pub mapped : ℕ → SlavePlan → List Action
@@ -113,17 +142,31 @@ each_slave f i (p ∷ ps) = f i p ++ each_slave f (i + 1) ps
 abbrev pub cleared : List Action
 cleared = AskInit ∷ AwaitInit ∷ ClearFmmus ∷ ClearManagers ∷ ClearStations ∷ []
 
+-- all registers that a device may have are cleared, the SII goes to the master, and the error of a former read is cleared
+abbrev pub all_cleared : List Action
+all_cleared =
+    AskInit ∷ AwaitInitState ∷ ClearAllFmmus ∷ ClearAllManagers ∷ ClearStations ∷ AssignSii Forced ∷ AssignSii Master ∷ ClearSiiError ∷ []
+
+abbrev pub opened : Bool → List Action
+opened hardware = if hardware then all_cleared else cleared
+
+-- the SII goes to the devices: some read it on their way to PREOP
+abbrev pub closed : Bool → List Action
+closed hardware = if hardware then AssignSii Device ∷ [] else []
+
 abbrev pub phases : List SlavePlan → List Action
 phases ps =
-    cleared
+    opened (is_hardware ps)
     ++ (each_slave named 0 ps
+    ++ (each_slave settled 0 ps
     ++ (each_slave identified 0 ps
+    ++ (closed (is_hardware ps)
     ++ (each_slave (λ i p. mailbox_set i p p.kind.mailbox) 0 ps
     ++ (each_slave (raised PreOp) 0 ps
     ++ (each_slave (λ i p. talked i p p.kind.mailbox) 0 ps
     ++ (each_slave mapped 0 ps
     ++ (each_slave (raised SafeOp) 0 ps
-    ++ each_slave (raised Op) 0 ps)))))))
+    ++ each_slave (raised Op) 0 ps)))))))))
 
 -- without slaves the first action is all
 abbrev pub script : List SlavePlan → List Action

@@ -17,6 +17,7 @@ kind_of product mailbox out_start in_start outputs inputs = record {
   inputs = inputs;
   lrw = true;
   face = None;
+  hardware = None;
 }
 
 -- a PDO with one entry
@@ -31,6 +32,7 @@ four_outputs = record {
   managers = no_settings ∷ no_settings ∷ area_settings 0x1100 1 outputs_control ∷ no_settings ∷ [];
   fmmus = record no_fmmu { logical_start = 0x00010000; length = 1; stop_bit = 3; physical_start = 0x1100; writes = true; active = true } ∷ no_fmmu ∷ no_fmmu ∷ no_fmmu ∷ [];
   from = 0x00080000;
+  bits = record { outs = 4; ins = 0 };
   share = record { outs = 4; ins = 0; part = 0 };
 }
 
@@ -42,6 +44,7 @@ four_inputs = record {
   managers = no_settings ∷ no_settings ∷ no_settings ∷ area_settings 0x1100 1 inputs_control ∷ [];
   fmmus = no_fmmu ∷ record no_fmmu { logical_start = 0x00010000; length = 1; start_bit = 4; stop_bit = 7; physical_start = 0x1100; reads = true; active = true } ∷ no_fmmu ∷ no_fmmu ∷ [];
   from = 0x00080004;
+  bits = record { outs = 0; ins = 4 };
   share = record { outs = 0; ins = 4; part = 0 };
 }
 
@@ -54,6 +57,7 @@ mixed = record {
   fmmus = record no_fmmu { logical_start = 0x00010001; length = 2; stop_bit = 3; physical_start = 0x1100; writes = true; active = true }
       ∷ record no_fmmu { logical_start = 0x00010001; length = 2; stop_bit = 7; physical_start = 0x1400; reads = true; active = true } ∷ no_fmmu ∷ no_fmmu ∷ [];
   from = 0x00080008;
+  bits = record { outs = 12; ins = 16 };
   share = record { outs = 12; ins = 16; part = 0 };
 }
 

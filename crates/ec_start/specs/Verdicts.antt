@@ -1,5 +1,5 @@
 -- What the returned datagram of an action says: the action is done, it is tried again, or the start-up has failed and why.
-use Rattle.std.specs.Prelude.{ℕ, ◌+◌, ◌*◌, ◌%◌, ◌==◌, ◌&&◌, not, List, Bool, if◌then◌else◌, slice_index, Option}
+use Rattle.std.specs.Prelude.{ℕ, ◌+◌, ◌*◌, ◌%◌, ◌==◌, ◌&&◌, ◌||◌, not, List, Bool, if◌then◌else◌, slice_index, Option}
 use Rattle.ec_device.specs.declared.slave_type.Device.{Device}
 use Rattle.ec_regs.specs.Words.{al_flag, sii_error, sii_busy}
 use Rattle.ec_frame.specs.Datagram.{Datagram}
@@ -15,10 +15,11 @@ use Rattle.ec_start.specs.declared.action.Transfer.{Transfer}
 use Rattle.ec_start.specs.declared.action.Transfer.TheVariants.{Download, Upload}
 use Rattle.ec_start.specs.declared.action.SdoRequest.{SdoRequest}
 use Rattle.ec_start.specs.declared.action.Action.{Action}
-use Rattle.ec_start.specs.declared.action.Action.TheVariants.{CountSlaves, AskInit, AwaitInit, ClearFmmus, ClearManagers, ClearStations, NameSlave, AskWord, AwaitWord, SetManager, SetFmmu, AskState, AwaitState, SendRequest, AwaitReply}
+use Rattle.ec_start.specs.declared.action.Action.TheVariants.{CountSlaves, AskInit, AwaitInit, ClearFmmus, ClearManagers, ClearStations, NameSlave, AskWord, AwaitWord, SetManager, SetFmmu, AskState, AwaitState, SendRequest, AwaitReply, AwaitInitState, ClearAllFmmus, ClearAllManagers, AssignSii, ClearSiiError, AwaitCleanInit, FeedPart}
 use Rattle.ec_start.specs.declared.error.StartError.TheVariants.{BadMailbox, Count, Identity, Counter, AlError, Abort, Mapping}
+use Rattle.ec_start.specs.declared.verdict.WantedDevice.{WantedDevice}
 use Rattle.ec_start.specs.declared.verdict.Verdict.{Verdict}
-use Rattle.ec_start.specs.declared.verdict.Verdict.TheVariants.{Next, Word, Again, Fails}
+use Rattle.ec_start.specs.declared.verdict.Verdict.TheVariants.{Next, Word, Fed, Again, Fails}
 
 -- ---- numbers in the data, little-endian
 
@@ -48,12 +49,13 @@ read_before s which =
 abbrev pub differs : ℕ → Device → Verdict
 differs i s = Fails (Identity i s)
 
-abbrev pub is_device : Device → Device → Bool
-is_device t s = (t.vendor == s.vendor) && ((t.product == s.product) && (t.revision == s.revision))
+-- of a type without a revision each revision fits
+abbrev pub is_device : WantedDevice → Device → Bool
+is_device t s = (t.device.vendor == s.vendor) && ((t.device.product == s.product) && (t.any_revision || (t.device.revision == s.revision)))
 
 -- the SII's control and status word, the word address, and at 6 the data: an error ends the start-up at once, busy means one
 -- more poll, and after the third word the identity is compared with the type's
-abbrev pub word_verdict : Device → Device → ℕ → ℕ → List ℕ → Verdict
+abbrev pub word_verdict : WantedDevice → Device → ℕ → ℕ → List ℕ → Verdict
 word_verdict t s i which bytes =
     if sii_error (word_at bytes 0) then differs i (read_before s which)
     else (if sii_busy (word_at bytes 0) then Again
@@ -66,6 +68,15 @@ abbrev pub state_verdict : ℕ → State → List ℕ → Verdict
 state_verdict i state bytes =
     if al_flag (slice_index bytes 0) then Fails (AlError i (word_at bytes 4))
     else (if slice_index bytes 0 % 32 == state_number state then Next else Again)
+
+-- the state of all slaves in one byte, by OR: INIT is 1 of its four bits. What else it has may be errors, or the copied
+-- acknowledgement of a device without firmware.
+abbrev pub init_state_verdict : List ℕ → Verdict
+init_state_verdict bytes = if slice_index bytes 0 % 16 == 1 then Next else Again
+
+-- in INIT without an error; an error is awaited until it is acknowledged
+abbrev pub clean_init_verdict : List ℕ → Verdict
+clean_init_verdict bytes = if slice_index bytes 0 % 32 == 1 then Next else Again
 
 -- ---- replies
 
@@ -94,9 +105,9 @@ message_verdict i r m = reply_verdict i r r.transfer (reply_of r.index r.subinde
 abbrev pub counted : ℕ → ℕ → ℕ → Verdict → Verdict
 counted seen expected step v = if seen == expected then v else Fails (Counter step)
 
--- `n` slaves, step number `step`, what was seen of the identity, the device of the slave that is asked; in the waits for a
--- reply a counter of 0 says that there is none yet
-abbrev pub verdict : ℕ → ℕ → Device → (ℕ → Device) → Action → Datagram → Verdict
+-- `n` slaves, step number `step`, what was seen of the identity, the device that the slave that is asked must be; in the waits
+-- for a reply a counter of 0 says that there is none yet
+abbrev pub verdict : ℕ → ℕ → Device → (ℕ → WantedDevice) → Action → Datagram → Verdict
 verdict n step s types CountSlaves d = if d.counter == n then Next else Fails (Count d.counter)
 verdict n step s types AskInit d = counted d.counter n step Next
 verdict n step s types AwaitInit d = counted d.counter n step (if word_at d.data_bytes 0 == 1 then Next else Again)
@@ -106,9 +117,17 @@ verdict n step s types ClearStations d = counted d.counter n step Next
 verdict n step s types (NameSlave i) d = counted d.counter 1 step Next
 verdict n step s types (AskWord i which) d = counted d.counter 1 step Next
 verdict n step s types (AwaitWord i which) d = counted d.counter 1 step (word_verdict (types i) s i which d.data_bytes)
-verdict n step s types (SetManager i k m) d = counted d.counter 1 step Next
-verdict n step s types (SetFmmu i k f) d = counted d.counter 1 step Next
+verdict n step s types (SetManager i k m r) d = counted d.counter 1 step Next
+verdict n step s types (SetFmmu i k f start) d = counted d.counter 1 step Next
 verdict n step s types (AskState i state) d = counted d.counter 1 step Next
 verdict n step s types (AwaitState i state) d = counted d.counter 1 step (state_verdict i state d.data_bytes)
 verdict n step s types (SendRequest i before b r) d = counted d.counter 1 step Next
 verdict n step s types (AwaitReply i b r) d = if d.counter == 0 then Again else counted d.counter 1 step (message_verdict i r (message_read d.data_bytes))
+-- ---- of a table with `hardware`; which registers a device has is its own, so not every clear is counted
+verdict n step s types AwaitInitState d = counted d.counter n step (init_state_verdict d.data_bytes)
+verdict n step s types ClearAllFmmus d = Next
+verdict n step s types ClearAllManagers d = Next
+verdict n step s types (AssignSii access) d = Next
+verdict n step s types ClearSiiError d = Next
+verdict n step s types (AwaitCleanInit i) d = counted d.counter 1 step (clean_init_verdict d.data_bytes)
+verdict n step s types (FeedPart f) d = counted d.counter f.counter step Fed

@@ -1,10 +1,10 @@
 //! The actions of a start-up, and the datagram of each.
 
-ghost use Rattle.std.specs.Prelude.{◌≡◌, ◌≤◌, ◌-◌, ◌%◌, ◌/◌, length};
+ghost use Rattle.std.specs.Prelude.{◌≡◌, ◌<◌, ◌≤◌, ◌-◌, ◌%◌, ◌/◌, false, length};
 ghost use Rattle.ec_bits.specs.Bits.{zeros};
-ghost use Rattle.ec_start.specs.Actions.{station, slave_of_action, word_address_of, request_message, datagram_of};
+ghost use Rattle.ec_start.specs.Actions.{access_number, station, slave_of_action, word_address_of, request_message, datagram_of};
 ghost use Rattle.ec_start.specs.Scripts.{downloads, uploads};
-ghost use Rattle.ec_start.specs.Doable.{IsDoable};
+ghost use Rattle.ec_start.specs.Doable.{IsDoable, is_feed};
 
 use ec_al::State;
 use ec_coe::{Message, SdoCommand, SdoValue, Service, write_message};
@@ -12,13 +12,16 @@ use ec_device::Mailbox;
 use ec_frame::{Command, address_of};
 use ec_regs::registers::{
     AL_CONTROL, AL_STATUS, AL_STATUS_CODE, FMMU_SIZE, FMMUS, FMMUS_END, MANAGER_SIZE, SII_ADDRESS,
-    SII_CONTROL, SII_DATA, STATION_ADDRESS, SYNC_MANAGERS, SYNC_MANAGERS_END, fmmu_address,
-    manager_address,
+    SII_CONFIGURATION, SII_CONTROL, SII_DATA, STATION_ADDRESS, SYNC_MANAGERS, SYNC_MANAGERS_END,
+    fmmu_address, manager_address,
 };
 use ec_regs::{AlWord, FmmuSettings, SiiControl, SyncManagerSettings, encode_fmmu, encode_manager};
 
-/// The most bytes of data that an action has: a mailbox.
-pub const MAX_DATA: usize = 1024;
+/// The most bytes of data that an action has: those of a part of the process data.
+pub const MAX_DATA: usize = 1422;
+
+/// How many FMMUs, and how many sync managers, a controller can have.
+const MAX_REGISTERS: usize = 16;
 
 /// The station address of slave 0; slave i gets this plus i.
 const FIRST_STATION: u16 = 0x1001;
@@ -58,6 +61,39 @@ pub struct SdoRequest {
     pub transfer: Transfer,
 }
 
+/// Who has the SII, as its configuration register says (ETG.1000.4, "SII configuration").
+#[derive(Clone, Copy, Debug, PartialEq, Eq)]
+pub enum SiiAccess {
+    /// The master.
+    Master,
+    /// The device.
+    Device,
+    /// The master, also against the device's will, until `Master` is written.
+    Forced,
+}
+
+/// The register of a sync manager, as a device has it. Without `hardware` number and start are those of the plan.
+#[derive(Clone, Copy, Debug, PartialEq, Eq)]
+pub struct ManagerRegister {
+    /// The number of the sync manager, 0 to 3.
+    pub number: usize,
+    /// The address of its first byte.
+    pub start: u16,
+}
+
+/// A datagram of zeros over a part of the process data: the slaves of the part get outputs.
+#[derive(Clone, Copy, Debug, PartialEq, Eq)]
+pub struct Feed {
+    /// The logical address of the part's first byte.
+    pub address: u32,
+    /// How many bytes the part has, at most 1422.
+    pub bytes: usize,
+    /// Whether it is an LWR, since the part is split; else it is an LRW.
+    pub split: bool,
+    /// The working counter with which it comes back.
+    pub counter: usize,
+}
+
 /// One action of a start-up: an init command, or a wait with all its polls. Slaves are counted from 0 in the order of the
 /// table.
 #[derive(Clone, Copy)]
@@ -78,27 +114,29 @@ pub enum Action {
     NameSlave {
         slave: usize,
     },
-    /// Commands an SII read of a word of the identity: 0 the vendor, 1 the product, 2 the revision.
+    /// Commands an SII read of the two words at 0x08 + 2 * `which`: 0 is the vendor, 1 the product, 2 the revision.
     AskWord {
         slave: usize,
         which: usize,
     },
-    /// Waits for the word that the SII reads.
+    /// Waits for the words that the SII reads.
     AwaitWord {
         slave: usize,
         which: usize,
     },
-    /// Sets a sync manager.
+    /// Sets the sync manager of a role: the mailboxes are 0 and 1, the outputs 2, the inputs 3. `settings` are those of the plan.
     SetManager {
         slave: usize,
-        number: usize,
+        place: usize,
         settings: SyncManagerSettings,
+        register: ManagerRegister,
     },
-    /// Sets an FMMU.
+    /// Sets an FMMU. `settings` are those of the plan; its register has `start` as the physical start.
     SetFmmu {
         slave: usize,
         number: usize,
         settings: FmmuSettings,
+        start: u16,
     },
     /// Asks a slave for a state.
     AskState {
@@ -123,6 +161,36 @@ pub enum Action {
         mailbox: Mailbox,
         request: SdoRequest,
     },
+    /// With `hardware`: waits until all are in INIT, with an error or without. A device without firmware copies the
+    /// acknowledgement into its AL status, where it looks like an error.
+    AwaitInitState,
+    /// With `hardware`: clears all FMMUs that a controller can have, of all slaves.
+    ClearAllFmmus,
+    /// With `hardware`: clears all sync managers that a controller can have, of all slaves.
+    ClearAllManagers,
+    /// With `hardware`: gives the SII of all slaves to the master or to the devices.
+    AssignSii(SiiAccess),
+    /// With `hardware`: clears the error of a former SII command, of all slaves.
+    ClearSiiError,
+    /// With `hardware`: waits until a slave with firmware is in INIT without an error.
+    AwaitCleanInit {
+        slave: usize,
+    },
+    /// With `hardware`: feeds a part of the process data with zeros. It belongs to the step that asks for OP or looks for it.
+    FeedPart(Feed),
+}
+
+impl SiiAccess {
+    /// The byte of the configuration register.
+    fn number(self) -> u8
+        ensures { result ≡ access_number self }
+    {
+        match self {
+            SiiAccess::Master => 0,
+            SiiAccess::Device => 1,
+            SiiAccess::Forced => 2,
+        }
+    }
 }
 
 impl SdoRequest {
@@ -181,7 +249,8 @@ impl Action {
             | Action::AskState { slave, .. }
             | Action::AwaitState { slave, .. }
             | Action::SendRequest { slave, .. }
-            | Action::AwaitReply { slave, .. } => Some(slave),
+            | Action::AwaitReply { slave, .. }
+            | Action::AwaitCleanInit { slave } => Some(slave),
             _ => None,
         }
     }
@@ -191,34 +260,47 @@ impl Action {
         ensures { result ≡ (datagram_of self.now 0).command }
     {
         match self {
-            Action::CountSlaves | Action::AwaitInit => Command::Brd,
-            Action::AskInit | Action::ClearFmmus | Action::ClearManagers | Action::ClearStations =>
-                Command::Bwr,
+            Action::CountSlaves | Action::AwaitInit | Action::AwaitInitState => Command::Brd,
+            Action::AskInit
+            | Action::ClearFmmus
+            | Action::ClearManagers
+            | Action::ClearStations
+            | Action::ClearAllFmmus
+            | Action::ClearAllManagers
+            | Action::AssignSii(_)
+            | Action::ClearSiiError => Command::Bwr,
             Action::NameSlave { .. } => Command::Apwr,
-            Action::AwaitWord { .. } | Action::AwaitState { .. } | Action::AwaitReply { .. } => {
-                Command::Fprd
-            }
+            Action::AwaitWord { .. }
+            | Action::AwaitState { .. }
+            | Action::AwaitReply { .. }
+            | Action::AwaitCleanInit { .. } => Command::Fprd,
             Action::AskWord { .. }
             | Action::SetManager { .. }
             | Action::SetFmmu { .. }
             | Action::AskState { .. }
             | Action::SendRequest { .. } => Command::Fpwr,
+            Action::FeedPart(feed) if feed.split => Command::Lwr,
+            Action::FeedPart(_) => Command::Lrw,
         }
     }
 
-    /// The address of the action's datagram: the ADP in the low 16 bits, the ADO in the high 16 bits.
+    /// The address of the action's datagram: of a part its logical address, else the ADP in the low 16 bits and the ADO in the high
+    /// 16 bits.
     pub fn address(&self) -> u32
         requires { IsDoable self.now }
         ensures { result ≡ (datagram_of self.now 0).address }
     {
-        address_of(self.adp(), self.ado())
+        match *self {
+            Action::FeedPart(feed) => feed.address,
+            _ => address_of(self.adp(), self.ado()),
+        }
     }
 
-    /// The length in bytes of the data of the action's datagram, at most 1024.
+    /// The length in bytes of the data of the action's datagram, at most 1422.
     pub fn data_length(&self) -> usize
         requires { IsDoable self.now }
         ensures value { result ≡ length (datagram_of self.now 0).data_bytes }
-        ensures few { result ≤ 1024 }
+        ensures few { result ≤ 1422 }
     {
         match *self {
             Action::CountSlaves
@@ -226,12 +308,18 @@ impl Action {
             | Action::AwaitInit
             | Action::ClearStations
             | Action::NameSlave { .. }
-            | Action::AskState { .. } => WORD,
+            | Action::AskState { .. }
+            | Action::AwaitInitState
+            | Action::ClearSiiError => WORD,
+            Action::AssignSii(_) => 1,
+            Action::ClearAllFmmus => MAX_REGISTERS * FMMU_SIZE,
+            Action::ClearAllManagers => MAX_REGISTERS * MANAGER_SIZE,
+            Action::FeedPart(feed) => feed.bytes,
             Action::ClearFmmus => FMMUS_END - FMMUS,
             Action::ClearManagers => SYNC_MANAGERS_END - SYNC_MANAGERS,
             Action::AskWord { .. } => SII_ORDER,
             Action::AwaitWord { .. } => SII_ANSWER,
-            Action::AwaitState { .. } => STATE_WITH_CODE,
+            Action::AwaitState { .. } | Action::AwaitCleanInit { .. } => STATE_WITH_CODE,
             Action::SetManager { .. } => MANAGER_SIZE,
             Action::SetFmmu { .. } => FMMU_SIZE,
             Action::SendRequest { mailbox, .. } => mailbox.receive_size as usize,
@@ -259,10 +347,25 @@ impl Action {
                 );
                 bytes[WORD_ADDRESS..].copy_from_slice(&word_address_of(*which).to_le_bytes());
             }
-            Action::SetManager { settings, .. } => {
-                bytes.copy_from_slice(&encode_manager(settings));
+            Action::SetManager {
+                settings,
+                register,
+                ..
+            } => {
+                let mut shown = *settings;
+                shown.start = register.start;
+                bytes.copy_from_slice(&encode_manager(&shown));
             }
-            Action::SetFmmu { settings, .. } => bytes.copy_from_slice(&encode_fmmu(settings)),
+            Action::SetFmmu {
+                settings,
+                start,
+                ..
+            } => {
+                let mut shown = *settings;
+                shown.physical_start = *start;
+                bytes.copy_from_slice(&encode_fmmu(&shown));
+            }
+            Action::AssignSii(access) => bytes[0] = access.number(),
             Action::AskState { state, .. } => bytes[0] = state.number() as u8,
             Action::SendRequest {
                 before,
@@ -275,29 +378,37 @@ impl Action {
         }
     }
 
-    /// The ADO of the action's datagram.
+    /// The ADO of the action's datagram; 0 if it is over a part.
     fn ado(&self) -> u16
         requires { IsDoable self.now }
-        ensures { result ≡ (datagram_of self.now 0).address / 65536 }
+        ensures { is_feed self.now ≡ false → result ≡ (datagram_of self.now 0).address / 65536 }
     {
         match *self {
-            Action::CountSlaves | Action::AwaitInit | Action::AwaitState { .. } => AL_STATUS as u16,
+            Action::CountSlaves
+            | Action::AwaitInit
+            | Action::AwaitState { .. }
+            | Action::AwaitInitState
+            | Action::AwaitCleanInit { .. } => AL_STATUS as u16,
             Action::AskInit | Action::AskState { .. } => AL_CONTROL as u16,
-            Action::ClearFmmus => FMMUS as u16,
-            Action::ClearManagers => SYNC_MANAGERS as u16,
+            Action::ClearFmmus | Action::ClearAllFmmus => FMMUS as u16,
+            Action::ClearManagers | Action::ClearAllManagers => SYNC_MANAGERS as u16,
+            Action::AssignSii(_) => SII_CONFIGURATION as u16,
+            Action::FeedPart(_) => 0,
             Action::ClearStations | Action::NameSlave { .. } => STATION_ADDRESS as u16,
-            Action::AskWord { .. } | Action::AwaitWord { .. } => SII_CONTROL as u16,
-            Action::SetManager { number, .. } => manager_address(number) as u16,
+            Action::AskWord { .. } | Action::AwaitWord { .. } | Action::ClearSiiError => {
+                SII_CONTROL as u16
+            }
+            Action::SetManager { register, .. } => manager_address(register.number) as u16,
             Action::SetFmmu { number, .. } => fmmu_address(number) as u16,
             Action::SendRequest { mailbox, .. } => mailbox.receive_start,
             Action::AwaitReply { mailbox, .. } => mailbox.send_start,
         }
     }
 
-    /// The ADP of the action's datagram.
+    /// The ADP of the action's datagram; 0 if it is over a part.
     fn adp(&self) -> u16
         requires { IsDoable self.now }
-        ensures { result ≡ (datagram_of self.now 0).address % 65536 }
+        ensures { is_feed self.now ≡ false → result ≡ (datagram_of self.now 0).address % 65536 }
     {
         match *self {
             Action::NameSlave { slave } => position(slave),
@@ -308,7 +419,8 @@ impl Action {
             | Action::AskState { slave, .. }
             | Action::AwaitState { slave, .. }
             | Action::SendRequest { slave, .. }
-            | Action::AwaitReply { slave, .. } => station(slave),
+            | Action::AwaitReply { slave, .. }
+            | Action::AwaitCleanInit { slave } => station(slave),
             _ => 0,
         }
     }
@@ -322,9 +434,9 @@ fn position(slave: usize) -> u16
     (0 as u16).wrapping_sub(slave as u16)
 }
 
-/// The SII word of a number of the identity: 0 the vendor, 1 the product, 2 the revision.
+/// The address of SII words: 0 is the vendor, 1 the product, 2 the revision.
 fn word_address_of(which: usize) -> u32
-    requires { which ≤ 2 }
+    requires { which < 0x8000 }
     ensures { result ≡ word_address_of which }
 {
     VENDOR_WORD + 2 * which as u32

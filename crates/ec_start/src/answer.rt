@@ -16,6 +16,7 @@ use ec_frame::{Command, Datagrams, FrameName, Header, check, index_of, read_data
 const DATAGRAMS: usize = 2;
 
 /// The action's datagram, as bytes spell it, in a payload that answers the action's frame of this number; none if it doesn't.
+/// An answer has the commands, the indices, the lengths, the order and the number of the frame.
 pub fn answer_in<'a>(payload: &'a [u8], action: &Action, number: u64) -> Option<&'a [u8]>
     requires { IsDoable action.now }
     ensures { MatchOption result

@@ -2,6 +2,7 @@
 
 ghost use Rattle.ec_start.specs.AdvertisedFull.{AdvertisedFullHasTheScript};
 ghost use Rattle.ec_start.specs.Interface.{PlannedSlavesAreStartable, ScriptsAreShort};
+ghost use Rattle.ec_start.specs.PlainScripts.{PlainTablesSendTheSame};
 ghost use Rattle.ec_start.specs.Laws.{IsScriptOfThree, UploadsComeFirst, CountersRunToSeven, EndedStays, PlansStay, PollsEnd, ForeignChangesNothing, FramesAreAnswered, StartablesAreTaken};
 
 /// The script of the example's three slaves has 75 steps, and step 10 is the first wait for slave 0's SII.
@@ -73,4 +74,10 @@ pub fn planned_slaves_are_startable()
 #[tactic(auto, using(crate::proofs::ScriptLengths::scripts_are_short))]
 pub fn scripts_are_short()
     ensures { ScriptsAreShort }
+{}
+
+/// Of a table without `hardware` a start-up has the actions that it had before there was `hardware`, and feeds no part.
+#[tactic(auto, using(crate::proofs::PlainLaw::plain_law))]
+pub fn plain_tables_send_the_same()
+    ensures { PlainTablesSendTheSame }
 {}

@@ -5,6 +5,7 @@
 mod action;
 mod answer;
 mod error;
+mod feeding;
 mod held;
 pub mod laws;
 mod phase;
@@ -14,9 +15,10 @@ mod startup;
 mod steps;
 mod verdict;
 
-pub use crate::action::{Action, SdoRequest, Transfer};
+pub use crate::action::{Action, Feed, ManagerRegister, SdoRequest, SiiAccess, Transfer};
+pub use crate::answer::answer_in;
 pub use crate::error::StartError;
 pub use crate::held::HeldPlan;
 pub use crate::phase::{NextFrame, Phase, Taken};
-pub use crate::startup::Startup;
+pub use crate::startup::{Startup, write_frame};
 pub use crate::steps::step_at;

@@ -1,26 +1,33 @@
 //! The place of a start-up in its script. No step of the script is stored.
 
-ghost use Rattle.std.specs.Prelude.{◌≡◌, ◌≤◌, ◌<◌, length, All, Option, Some, None, IfSome, get_or, slice_get};
+ghost use Rattle.std.specs.Prelude.{◌≡◌, ◌≤◌, ◌<◌, true, false, length, All, Option, Some, None, IfSome, get_or, slice_get};
 ghost use Rattle.ec_start.specs.Planned.{HasFewAssigned};
-ghost use Rattle.ec_start.specs.Scripts.{named, identified, mailbox_set, raised, talked, mapped};
+ghost use Rattle.ec_start.specs.Scripts.{closed, identified, is_hardware, mailbox_set, mapped, named, opened, raised, register_of, set_fmmu, set_manager, settled, talked};
 ghost use Rattle.ec_start.specs.Doable.{IsDoable};
 ghost use Rattle.ec_start.specs.Held.{first_step};
-ghost use Rattle.ec_start.specs.Ahead.{share, opening, share_at, is_for_all, following, behind, set_manager_of, manager_chosen, fmmu_chosen, choices, Settles};
+ghost use Rattle.ec_start.specs.Ahead.{share, opening, share_at, for_all, is_for_all, following, behind, manager_chosen, fmmu_chosen, choices, Settles};
 
-use crate::action::Action;
+use crate::action::{Action, ManagerRegister, SiiAccess};
 use crate::requests::request_at;
 use ec_al::State;
+use ec_device::SlaveType;
 use ec_link::SlavePlan;
+use ec_regs::SyncManagerSettings;
 
-/// A stretch of the script: a share of actions for each slave, slave after slave; the opening is for all slaves at once.
+/// A stretch of the script: a share of actions for each slave, slave after slave; the opening and the closing are for all slaves at
+/// once. Without `hardware` nothing is settled or closed.
 #[derive(Clone, Copy)]
 pub enum Stretch {
     /// The slaves are counted, asked for INIT and cleared.
     Opening,
     /// Each slave gets its station address.
     Naming,
+    /// Each slave with firmware is awaited without an error.
+    Settling,
     /// The identity of each slave is read.
     Identifying,
+    /// The SII is given back.
+    Closing,
     /// Mailboxes are set.
     Mailboxes,
     /// Each slave is brought to PREOP.
@@ -40,9 +47,9 @@ pub enum Stretch {
 pub struct Cursor {
     /// The stretch.
     pub stretch: Stretch,
-    /// The slave, counted from 0; 0 in the opening.
+    /// The slave, counted from 0; 0 in the opening and in the closing.
     pub slave: usize,
-    /// The place in the slave's share of the stretch, or in the opening.
+    /// The place in the slave's share of the stretch, or in the opening or the closing.
     pub place: usize,
 }
 
@@ -59,7 +66,7 @@ impl Stretch {
         ensures { result ≡ is_for_all self }
     {
         match self {
-            Stretch::Opening => true,
+            Stretch::Opening | Stretch::Closing => true,
             _ => false,
         }
     }
@@ -70,8 +77,10 @@ impl Stretch {
     {
         Some(match self {
             Stretch::Opening => Stretch::Naming,
-            Stretch::Naming => Stretch::Identifying,
-            Stretch::Identifying => Stretch::Mailboxes,
+            Stretch::Naming => Stretch::Settling,
+            Stretch::Settling => Stretch::Identifying,
+            Stretch::Identifying => Stretch::Closing,
+            Stretch::Closing => Stretch::Mailboxes,
             Stretch::Mailboxes => Stretch::ToPreOp,
             Stretch::ToPreOp => Stretch::Talking,
             Stretch::Talking => Stretch::Mapping,
@@ -89,8 +98,9 @@ impl Stretch {
         ensures doable { IfSome result IsDoable }
     {
         match self {
-            Stretch::Opening => None,
+            Stretch::Opening | Stretch::Closing => None,
             Stretch::Naming => naming(slave, settings, place),
+            Stretch::Settling => settling(slave, settings, place),
             Stretch::Identifying => identifying(slave, settings, place),
             Stretch::Mailboxes => setting_mailboxes(slave, settings, place),
             Stretch::ToPreOp => raising(State::PreOp, slave, settings, place),
@@ -98,6 +108,22 @@ impl Stretch {
             Stretch::Mapping => mapping(slave, settings, place),
             Stretch::ToSafeOp => raising(State::SafeOp, slave, settings, place),
             Stretch::ToOp => raising(State::Op, slave, settings, place),
+        }
+    }
+}
+
+impl Stretch {
+    /// The action at a place of a stretch that is for all slaves at once; none past its end, and none of any other stretch.
+    fn action_for_all(self, slaves: &[SlavePlan], place: usize) -> Option<Action>
+        ensures value { result ≡ slice_get (for_all self slaves.now) place }
+        ensures doable { IfSome result IsDoable }
+    {
+        match self {
+            Stretch::Opening => { opening_action(!slaves.is_empty(), has_hardware(slaves), place) }
+            Stretch::Closing if place == 0 && has_hardware(slaves) => {
+                Some(Action::AssignSii(SiiAccess::Device))
+            }
+            _ => None,
         }
     }
 }
@@ -147,7 +173,7 @@ impl Cursor {
         ensures doable { IfSome result IsDoable }
     {
         if self.stretch.is_for_all() {
-            return opening_action(!slaves.is_empty(), self.place);
+            return self.stretch.action_for_all(slaves, self.place);
         }
         if self.slave >= slaves.len() {
             return None;
@@ -216,6 +242,7 @@ fn fmmu_chosen(slave: usize, settings: &SlavePlan, number: usize) -> Option<Acti
             slave,
             number,
             settings: fmmu,
+            start: settings.kind.other_name(fmmu.physical_start),
         })
     } else {
         None
@@ -277,16 +304,30 @@ fn setting_mailboxes(slave: usize, settings: &SlavePlan, place: usize) -> Option
 }
 
 /// The action that sets a slave's sync manager as the plan has it.
-fn set_manager(slave: usize, settings: &SlavePlan, number: usize) -> Action
+fn set_manager(slave: usize, settings: &SlavePlan, place: usize) -> Action
     requires low { slave < 64 }
-    requires there { number < 4 }
-    ensures value { result ≡ set_manager_of slave settings.now number }
+    requires there { place < 4 }
+    ensures value { result ≡ set_manager slave settings.now place }
     ensures doable { IsDoable result }
 {
+    let manager = settings.managers[place];
     Action::SetManager {
         slave,
-        number,
-        settings: settings.managers[number],
+        place,
+        settings: manager,
+        register: register_of(&settings.kind, place, &manager),
+    }
+}
+
+/// The register of the sync manager of a role, as a device of the type has it.
+fn register_of(kind: &SlaveType, place: usize, settings: &SyncManagerSettings) -> ManagerRegister
+    requires { place < 4 }
+    ensures value { result ≡ register_of kind.now place settings.now }
+    ensures few { result.number < 4 }
+{
+    ManagerRegister {
+        number: kind.manager_number(place),
+        start: kind.other_name(settings.start),
     }
 }
 
@@ -318,6 +359,19 @@ fn identifying(slave: usize, settings: &SlavePlan, place: usize) -> Option<Actio
     }
 }
 
+fn settling(slave: usize, settings: &SlavePlan, place: usize) -> Option<Action>
+    requires { slave < 64 }
+    ensures value { result ≡ slice_get (settled slave settings.now) place }
+    ensures doable { IfSome result IsDoable }
+{
+    let hardware = settings.kind.hardware()?;
+    if place == 0 && hardware.has_firmware {
+        Some(Action::AwaitCleanInit { slave })
+    } else {
+        None
+    }
+}
+
 fn naming(slave: usize, settings: &SlavePlan, place: usize) -> Option<Action>
     requires { slave < 64 }
     ensures value { result ≡ slice_get (named slave settings.now) place }
@@ -329,18 +383,60 @@ fn naming(slave: usize, settings: &SlavePlan, place: usize) -> Option<Action>
     }
 }
 
+/// Whether the slaves are those of a table with `hardware`: then each of their types says what its devices are like.
+pub fn has_hardware(slaves: &[SlavePlan]) -> bool
+    ensures { result ≡ is_hardware slaves.now }
+{
+    !slaves.is_empty() && slaves[0].kind.hardware().is_some()
+}
+
 /// The action at a place of the opening.
-fn opening_action(has_slaves: bool, place: usize) -> Option<Action>
-    ensures value { result ≡ slice_get (opening has_slaves) place }
+fn opening_action(has_slaves: bool, has_hardware: bool, place: usize) -> Option<Action>
+    ensures value { result ≡ slice_get (opening has_slaves has_hardware) place }
+    ensures doable { IfSome result IsDoable }
+{
+    if place == 0 {
+        return Some(Action::CountSlaves);
+    }
+    if !has_slaves {
+        return None;
+    }
+    if has_hardware {
+        clearing_all(place - 1)
+    } else {
+        clearing(place - 1)
+    }
+}
+
+/// The action at a place of the clearing.
+fn clearing(place: usize) -> Option<Action>
+    ensures value { result ≡ slice_get (opened false) place }
     ensures doable { IfSome result IsDoable }
 {
     match place {
-        0 => Some(Action::CountSlaves),
-        1 if has_slaves => Some(Action::AskInit),
-        2 if has_slaves => Some(Action::AwaitInit),
-        3 if has_slaves => Some(Action::ClearFmmus),
-        4 if has_slaves => Some(Action::ClearManagers),
-        5 if has_slaves => Some(Action::ClearStations),
+        0 => Some(Action::AskInit),
+        1 => Some(Action::AwaitInit),
+        2 => Some(Action::ClearFmmus),
+        3 => Some(Action::ClearManagers),
+        4 => Some(Action::ClearStations),
+        _ => None,
+    }
+}
+
+/// The action at a place of the clearing with `hardware`.
+fn clearing_all(place: usize) -> Option<Action>
+    ensures value { result ≡ slice_get (opened true) place }
+    ensures doable { IfSome result IsDoable }
+{
+    match place {
+        0 => Some(Action::AskInit),
+        1 => Some(Action::AwaitInitState),
+        2 => Some(Action::ClearAllFmmus),
+        3 => Some(Action::ClearAllManagers),
+        4 => Some(Action::ClearStations),
+        5 => Some(Action::AssignSii(SiiAccess::Forced)),
+        6 => Some(Action::AssignSii(SiiAccess::Master)),
+        7 => Some(Action::ClearSiiError),
         _ => None,
     }
 }

@@ -4,17 +4,19 @@ ghost use Rattle.std.specs.Prelude.{◌≡◌, ◌≢◌, ◌<◌, ◌≤◌, �
 ghost use Rattle.ec_bits.specs.Bits.{zeros};
 ghost use Rattle.ec_frame.specs.Building.{bare_payload};
 ghost use Rattle.ec_frame.specs.Frame.{IsFrame};
-ghost use Rattle.ec_start.specs.declared.verdict.Verdict.TheVariants.{Again};
+ghost use Rattle.ec_start.specs.declared.verdict.Verdict.TheVariants.{Again, Fed};
 ghost use Rattle.ec_start.specs.HeldPlans.{plan_in};
 ghost use Rattle.ec_start.specs.declared.phase.NextFrame.TheVariants.{Send};
 ghost use Rattle.ec_start.specs.Actions.{datagram_of, frame_of};
 ghost use Rattle.ec_start.specs.Planned.{HasFewAssigned};
 ghost use Rattle.ec_start.specs.Doable.{IsDoable};
-ghost use Rattle.ec_start.specs.Running.{begun, action_of, has_failed, asked, next_frame, IsStartTaken, is_accepted, advanced, judged, given_up, restarted, outcome_of, is_sent, with_identity};
+ghost use Rattle.ec_start.specs.Feeding.{feeds_of};
+ghost use Rattle.ec_start.specs.Running.{begun, action_of, has_failed, is_ended, asked, next_frame, IsStartTaken, is_accepted, advanced, judged, given_up, restarted, outcome_of, is_sent, with_identity};
 
 use crate::action::{Action, MAX_DATA};
 use crate::answer::answer_in;
 use crate::error::StartError;
+use crate::feeding::{feed_at, is_fed};
 use crate::held::HeldPlan;
 use crate::phase::{NextFrame, Phase, Taken};
 use crate::script::{Step, first_step};
@@ -24,11 +26,11 @@ use ec_frame::{Command, Frame, FrameName, Sent, index_of, read_counter, read_dat
 use ec_link::{Plan, SlavePlan};
 use std::marker::Model;
 
-/// Enough bytes for the data of each datagram that is no mailbox message.
+/// Enough bytes for the data of each datagram without `hardware` that is no mailbox message.
 const SHORT_DATA: usize = 64;
 
-/// Enough bytes for most mailboxes.
-const USUAL_MAILBOX: usize = 256;
+/// Enough bytes for most mailboxes, and for the clears with `hardware`.
+const USUAL_DATA: usize = 256;
 
 /// How often a wait is polled at most.
 const MAX_POLLS: u16 = 1000;
@@ -40,6 +42,8 @@ pub struct Startup<'p> {
     held: HeldPlan<'p>,
     next: u64,
     place: usize,
+    // how many parts were fed before the frame of this place that comes next
+    fed: usize,
     polls: u16,
     seen: Device,
     phase: Phase,
@@ -51,19 +55,22 @@ impl<'p> Model for Startup<'p> {
     ghost use Rattle.ec_start.specs.Running.{StartState};
     ghost use Rattle.ec_start.specs.Held.{IsHeld};
     ghost use Rattle.ec_start.specs.HeldPlans.{plan_in};
+    ghost use Rattle.ec_start.specs.Feeding.{feeds_of};
 
     ghost Value = { StartState };
 
     ghost view = { λ s. record {
       plan = (plan_in s.held).slaves;
+      feeds = feeds_of (plan_in s.held);
       next = s.next;
       place = s.place;
+      fed = s.fed;
       polls = s.polls;
       seen = s.seen;
       phase = s.phase;
     } };
 
-    ghost invariant = { λ s. IsHeld (plan_in s.held).slaves s.next s.place s.polls s.phase s.step };
+    ghost invariant = { λ s. IsHeld (plan_in s.held).slaves s.next s.place s.fed s.polls s.phase s.step };
 }
 
 impl<'p> Startup<'p> {
@@ -79,7 +86,7 @@ impl<'p> Startup<'p> {
     /// A start-up of a plan. Its first frame has the number `from_number`. Neither this nor any later call takes memory.
     pub fn new(plan: &'p Plan, from_number: u64) -> Startup<'p>
         requires { All HasFewAssigned plan.now.slaves }
-        ensures begun { result ≡ begun plan.now.slaves from_number }
+        ensures begun { result ≡ begun plan.now.slaves (feeds_of plan.now) from_number }
         ensures plan { result.plan ≡ plan.now.slaves }
         ensures unsent { is_sent result.phase ≡ false }
     {
@@ -90,7 +97,7 @@ impl<'p> Startup<'p> {
     #[tactic(auto, unfolding(crate::specs::Running::begun))]
     pub fn of(plan: HeldPlan<'p>, from_number: u64) -> Startup<'p>
         requires { All HasFewAssigned (plan_in plan).slaves }
-        ensures begun { result ≡ begun (plan_in plan.entry).slaves from_number }
+        ensures begun { result ≡ begun (plan_in plan.entry).slaves (feeds_of (plan_in plan.entry)) from_number }
         ensures plan { result.plan ≡ (plan_in plan.entry).slaves }
         ensures unsent { is_sent result.phase ≡ false }
     {
@@ -98,6 +105,7 @@ impl<'p> Startup<'p> {
             held: plan,
             next: from_number,
             place: 0,
+            fed: 0,
             polls: 0,
             seen: nothing_read(),
             phase: Phase::Idle,
@@ -157,7 +165,7 @@ impl<'p> Startup<'p> {
             self.phase = Phase::Failed(StartError::NumbersSpent);
             return NextFrame::Ended;
         }
-        write_frame(&self.step.action, self.next, frame);
+        write_frame(&self.action(), self.next, frame);
         self.phase = Phase::Sent(self.next);
         self.next += 1;
         NextFrame::Send
@@ -172,14 +180,15 @@ impl<'p> Startup<'p> {
         let Phase::Sent(number) = self.phase else {
             return Taken::Foreign;
         };
-        let Some(answer) = answer_in(payload, &self.step.action, number) else {
+        let action = self.action();
+        let Some(answer) = answer_in(payload, &action, number) else {
             return Taken::Foreign;
         };
         let verdict = verdict_on(
             self.held.plan().slaves(),
             self.place,
             self.seen,
-            &self.step.action,
+            &action,
             read_counter(answer),
             read_data(answer),
         );
@@ -208,14 +217,31 @@ impl<'p> Startup<'p> {
     /// Begins again from any phase. The next frame has the number `from_number`; an answer to an earlier frame is no longer awaited.
     #[tactic(auto, unfolding(crate::specs::Running::begun))]
     pub fn begin_again(&mut self, from_number: u64)
-        ensures { self.new ≡ begun self.old.plan from_number }
+        ensures { self.new ≡ begun self.old.plan self.old.feeds from_number }
     {
         self.next = from_number;
         self.place = 0;
+        self.fed = 0;
         self.polls = 0;
         self.seen = nothing_read();
         self.phase = Phase::Idle;
         self.step = first_step();
+    }
+
+    /// What the next frame does, or the outstanding one: it feeds a part before the step asks for OP or looks for it, or else is the
+    /// step's own.
+    fn action(&self) -> Action
+        requires { is_ended self.now.phase ≡ false }
+        ensures value { result ≡ action_of self.now }
+        ensures doable { IsDoable result }
+    {
+        if !is_fed(&self.step.action) {
+            return self.step.action;
+        }
+        match feed_at(self.held.plan(), self.fed) {
+            Some(feed) => Action::FeedPart(feed),
+            None => self.step.action,
+        }
     }
 
     /// Follows the verdict on the outstanding frame's answer.
@@ -226,6 +252,7 @@ impl<'p> Startup<'p> {
         match verdict {
             Verdict::Next => self.advance(self.seen),
             Verdict::Word(value) => self.advance(self.with_identity(value)),
+            Verdict::Fed => self.feed_next(),
             Verdict::Again => self.poll(),
             Verdict::Fails(error) => self.phase = Phase::Failed(error),
         }
@@ -242,6 +269,15 @@ impl<'p> Startup<'p> {
         }
     }
 
+    /// Goes on behind a part that was fed: to the next part, or to the step's own frame.
+    fn feed_next(&mut self)
+        requires { is_sent self.old.phase ≡ true }
+        ensures { self.new ≡ judged self.old Fed }
+    {
+        self.fed += 1;
+        self.phase = Phase::Idle;
+    }
+
     /// Polls a wait once more; it fails as `TooSlow` after `MAX_POLLS` polls.
     fn poll(&mut self)
         requires { is_sent self.old.phase ≡ true }
@@ -251,6 +287,7 @@ impl<'p> Startup<'p> {
             self.phase = Phase::Failed(StartError::TooSlow { step: self.place });
         } else {
             self.polls += 1;
+            self.fed = 0;
             self.phase = Phase::Idle;
         }
     }
@@ -261,6 +298,7 @@ impl<'p> Startup<'p> {
         ensures { self.new ≡ advanced self.old seen }
     {
         self.place += 1;
+        self.fed = 0;
         self.polls = 0;
         self.seen = seen;
         let mut cursor = self.step.cursor;
@@ -275,39 +313,40 @@ impl<'p> Startup<'p> {
     }
 }
 
-/// Writes the frame of an action with a number. It picks the least of three buffers that is long enough.
-fn write_frame(action: &Action, number: u64, frame: &mut Frame)
+/// Writes the frame of an action with a number in place of what was in `frame`. It picks the least of three buffers that is long
+/// enough.
+pub fn write_frame(action: &Action, number: u64, frame: &mut Frame)
     requires { IsDoable action.now }
     ensures { IsFrame frame.new.items (bare_payload (frame_of action.now number)) }
 {
     let count = action.data_length();
     if count <= SHORT_DATA {
         write_through(&mut [0; SHORT_DATA], action, number, frame);
-    } else if count <= USUAL_MAILBOX {
+    } else if count <= USUAL_DATA {
         write_usual(action, number, frame);
     } else {
         write_long(action, number, frame);
     }
 }
 
-/// As [`write_through`], with the longest buffer, which a mailbox message may need.
+/// As [`write_through`], with the longest buffer, which a mailbox message or a part may need.
 #[inline(never)]
 fn write_long(action: &Action, number: u64, frame: &mut Frame)
     requires doable { IsDoable action.now }
-    requires room { length (datagram_of action.now 0).data_bytes ≤ 1024 }
+    requires room { length (datagram_of action.now 0).data_bytes ≤ 1422 }
     ensures { IsFrame frame.new.items (bare_payload (frame_of action.now number)) }
 {
     write_through(&mut [0; MAX_DATA], action, number, frame);
 }
 
-/// As [`write_through`], with a buffer that has room for a usual mailbox.
+/// As [`write_through`], with a buffer that has room for a usual mailbox and for the clears.
 #[inline(never)]
 fn write_usual(action: &Action, number: u64, frame: &mut Frame)
     requires doable { IsDoable action.now }
     requires room { length (datagram_of action.now 0).data_bytes ≤ 256 }
     ensures { IsFrame frame.new.items (bare_payload (frame_of action.now number)) }
 {
-    write_through(&mut [0; USUAL_MAILBOX], action, number, frame);
+    write_through(&mut [0; USUAL_DATA], action, number, frame);
 }
 
 /// Writes the frame of an action with a number: the datagram that names the frame, and the action's. `buffer` has zeros,

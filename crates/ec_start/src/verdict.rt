@@ -3,16 +3,16 @@
 ghost use Rattle.std.specs.Prelude.{◌≡◌, ◌≤◌, length};
 ghost use Rattle.ec_device.specs.declared.slave_type.Device.{Device};
 ghost use Rattle.ec_start.specs.Actions.{datagram_of};
-ghost use Rattle.ec_start.specs.Running.{type_of};
+ghost use Rattle.ec_start.specs.Running.{type_of, wanted_of};
 ghost use Rattle.ec_start.specs.Answered.{answered, init_verdict};
-ghost use Rattle.ec_start.specs.Verdicts.{nothing_read, with_word, read_before, is_device, differs, word_verdict, state_verdict, upload_verdict, reply_verdict, counted, verdict};
+ghost use Rattle.ec_start.specs.Verdicts.{nothing_read, with_word, read_before, is_device, differs, word_verdict, state_verdict, init_state_verdict, clean_init_verdict, upload_verdict, reply_verdict, counted, verdict};
 
 use crate::action::{Action, SdoRequest, Transfer};
 use crate::error::StartError;
 use byteorder::{ByteOrder, LittleEndian};
 use ec_al::State;
 use ec_coe::{Reply, SdoValue, read_reply};
-use ec_device::Device;
+use ec_device::{Device, SlaveType};
 use ec_link::SlavePlan;
 use ec_regs::registers::{AL_STATUS, AL_STATUS_CODE, SII_CONTROL, SII_DATA};
 use ec_regs::{AlWord, SiiControl};
@@ -29,10 +29,20 @@ pub enum Verdict {
     Next,
     /// The action is done, and read this word of the SII.
     Word(u32),
+    /// A part was fed; the step's own frame is still to come.
+    Fed,
     /// The action must be tried again.
     Again,
     /// The start-up fails.
     Fails(StartError),
+}
+
+/// The device that a slave must be.
+#[derive(Clone, Copy)]
+pub struct WantedDevice {
+    pub device: Device,
+    /// Whether each revision fits, since the type has none.
+    pub any_revision: bool,
 }
 
 /// An identity of which no word was read yet: all 0.
@@ -92,6 +102,13 @@ pub fn verdict_on(
         Action::AskInit | Action::ClearFmmus | Action::ClearManagers | Action::ClearStations =>
             counted(counter, slaves.len(), step, Verdict::Next),
         Action::AwaitInit => counted(counter, slaves.len(), step, init_verdict(bytes)),
+        Action::AwaitInitState => counted(counter, slaves.len(), step, init_state_verdict(bytes)),
+        Action::ClearAllFmmus
+        | Action::ClearAllManagers
+        | Action::AssignSii(_)
+        | Action::ClearSiiError => Verdict::Next,
+        Action::AwaitCleanInit { .. } => counted(counter, 1, step, clean_init_verdict(bytes)),
+        Action::FeedPart(feed) => counted(counter, feed.counter, step, Verdict::Fed),
         Action::AwaitWord { slave, which } => {
             let kind = type_of(slaves, slave);
             let shown = word_verdict(kind, seen, slave, which, bytes);
@@ -166,7 +183,13 @@ fn state_verdict(slave: usize, state: State, bytes: &[u8]) -> Verdict
     }
 }
 
-fn word_verdict(kind: Device, seen: Device, slave: usize, which: usize, bytes: &[u8]) -> Verdict
+fn word_verdict(
+    kind: WantedDevice,
+    seen: Device,
+    slave: usize,
+    which: usize,
+    bytes: &[u8],
+) -> Verdict
     requires { 10 ≤ length bytes.now }
     ensures { result ≡ word_verdict kind seen slave which bytes.now }
 {
@@ -191,21 +214,40 @@ fn differs(slave: usize, seen: Device) -> Verdict
     Verdict::Fails(StartError::Identity { slave, seen })
 }
 
-/// The device of a slave's type; all 0 if there is no such slave.
-fn type_of(slaves: &[SlavePlan], slave: usize) -> Device
+/// The device that a slave must be by its type; all 0 if there is no such slave.
+fn type_of(slaves: &[SlavePlan], slave: usize) -> WantedDevice
     ensures { result ≡ type_of slaves.now slave }
 {
     if slave < slaves.len() {
-        slaves[slave].kind.device()
+        wanted_of(&slaves[slave].kind)
     } else {
-        nothing_read()
+        WantedDevice {
+            device: nothing_read(),
+            any_revision: false,
+        }
     }
 }
 
-fn is_device(kind: Device, seen: Device) -> bool
+/// The device that a slave of a type must be.
+fn wanted_of(kind: &SlaveType) -> WantedDevice
+    ensures { result ≡ wanted_of kind.now }
+{
+    WantedDevice {
+        device: kind.device(),
+        any_revision: kind.takes_any_revision(),
+    }
+}
+
+fn is_device(kind: WantedDevice, seen: Device) -> bool
     ensures { result ≡ is_device kind seen }
 {
-    kind.vendor == seen.vendor && kind.product == seen.product && kind.revision == seen.revision
+    let WantedDevice {
+        device,
+        any_revision,
+    } = kind;
+    device.vendor == seen.vendor
+        && device.product == seen.product
+        && (any_revision || device.revision == seen.revision)
 }
 
 /// The words of the identity that were read from this slave before word `which`.
@@ -224,6 +266,30 @@ fn read_before(seen: Device, which: usize) -> Device
             product: seen.product,
             revision: 0,
         },
+    }
+}
+
+/// The verdict on the OR of all AL states, errors left aside.
+fn init_state_verdict(bytes: &[u8]) -> Verdict
+    requires { 2 ≤ length bytes.now }
+    ensures { result ≡ init_state_verdict bytes.now }
+{
+    if bytes[0] % 16 == 1 {
+        Verdict::Next
+    } else {
+        Verdict::Again
+    }
+}
+
+/// The verdict on a slave that is awaited in INIT without an error.
+fn clean_init_verdict(bytes: &[u8]) -> Verdict
+    requires { 6 ≤ length bytes.now }
+    ensures { result ≡ clean_init_verdict bytes.now }
+{
+    if bytes[0] % 32 == 1 {
+        Verdict::Next
+    } else {
+        Verdict::Again
     }
 }
 

@@ -3,7 +3,7 @@ use Rattle.std.proofs.Common.{ℕ, ◌&&◌, ◌≡◌, ◌⊎◌, inl, inr, Lis
 use Rattle.ec_regs.specs.Managers.{is_mailbox, is_master_written, is_master_read}
 use Rattle.ec_sync.specs.Buffer.{Buffer, Got, app_written, publishing}
 use Rattle.ec_sync.specs.SyncManager.{SyncManager, no_manager, may_app_put, app_got, after_get, is_enabled, padded}
-use Rattle.ec_sync.specs.Runs.{Operation, Configure, Lock, Empty, PublishZeros, RingWrite, RingRead, AppPut, AppGet, MessageTake, MessagePut, step}
+use Rattle.ec_sync.specs.Runs.{Operation, Configure, Lock, Empty, PublishZeros, Await, RingWrite, RingRead, AppPut, AppGet, MessageTake, MessagePut, step}
 use Rattle.ec_sync.specs.Messages.{MailEvent, Put, Taken, Cleared, mail_event, added, mail_events, MessagesAreGivenOnce}
 
 -- from one message, or none, to the next: a put finds none, and what is taken is what is there
@@ -24,7 +24,7 @@ Goes mail (Cleared ∷ es) = Goes None es
 
 moves-written : (m : SyncManager) (w : List ℕ) (is_mail covered enabled ring : Bool) (mail : Option (List ℕ)) → m.mail ≡ mail
     → Moves m.mail (if is_mail && (covered && (enabled && (ring && (if is_mail then is_none mail else true)))) then Some (Put w) else None)
-    (if covered && (enabled && (ring && (if is_mail then is_none mail else true))) then (if is_mail then record m { mail = Some w } else record m { buffer = publishing m.buffer w }) else m).mail
+    (if covered && (enabled && (ring && (if is_mail then is_none mail else true))) then (if is_mail then record m { mail = Some w } else record m { buffer = publishing m.buffer w; awaited = false }) else m).mail
 moves-written m w false false enabled ring mail e = refl
 moves-written m w false true false ring mail e = refl
 moves-written m w false true true false mail e = refl
@@ -78,6 +78,7 @@ moves m (Configure settings) = refl
 moves m (Lock locked) = refl
 moves m Empty = refl
 moves m PublishZeros = refl
+moves m (Await b) = refl
 moves m (RingWrite covered value) = moves-written m value (is_mailbox m.settings) covered (is_enabled m) (is_master_written m.settings) m.mail refl
 moves m (RingRead covered) = moves-read m (is_mailbox m.settings) covered (is_enabled m) (is_master_read m.settings) m.mail refl
 moves m (AppPut i x) = kept-put m (may_app_put m) (app_written m.buffer i x)

@@ -4,7 +4,7 @@ use Rattle.std.proofs.lemmas.List.Elements.{All-head, All-tail}
 use Rattle.ec_regs.specs.Managers.{is_mailbox}
 use Rattle.ec_sync.specs.Buffer.{app_written, app_read, publishing}
 use Rattle.ec_sync.specs.SyncManager.{SyncManager, is_enabled, may_write, may_read, may_app_put, may_app_get, after_get, message_in, padded}
-use Rattle.ec_sync.specs.Runs.{Operation, Configure, Lock, Empty, PublishZeros, RingWrite, RingRead, AppPut, AppGet, MessageTake, MessagePut, step, draft_for, only, publications, history, newest, StaysBuffered, NewestIsVisible}
+use Rattle.ec_sync.specs.Runs.{Operation, Configure, Lock, Empty, PublishZeros, Await, RingWrite, RingRead, AppPut, AppGet, MessageTake, MessagePut, step, draft_for, only, publications, history, newest, StaysBuffered, NewestIsVisible}
 use Rattle.ec_sync.proofs.WholeValues.{put_if, got_if, closed_if}
 
 newest-append : (v : List ℕ) (xs ys : List (List ℕ)) → newest v (xs ++ ys) ≡ newest (newest v xs) ys
@@ -20,7 +20,7 @@ shows-same : (m : SyncManager) → is_mailbox m.settings ≡ false → Shows m.b
 shows-same m b = record { visible = refl; buffered = b }
 
 shows-written : (m : SyncManager) (w : List ℕ) (granted is_mail : Bool) → is_mail ≡ false → is_mailbox m.settings ≡ false
-    → Shows m.buffer.published (if granted then w ∷ [] else []) (if granted then (if is_mail then record m { mail = Some w } else record m { buffer = publishing m.buffer w }) else m)
+    → Shows m.buffer.published (if granted then w ∷ [] else []) (if granted then (if is_mail then record m { mail = Some w } else record m { buffer = publishing m.buffer w; awaited = false }) else m)
 shows-written m w true true e b = absurd (let f : true ≡ false = e in cc)
 shows-written m w true false e b = record { visible = refl; buffered = b }
 shows-written m w false is_mail e b = shows-same m b
@@ -68,6 +68,7 @@ shows-step m (Configure settings) h b = record { visible = refl; buffered = h }
 shows-step m (Lock locked) h b = record { visible = refl; buffered = b }
 shows-step m Empty h b = record { visible = refl; buffered = b }
 shows-step m PublishZeros h b = record { visible = refl; buffered = b }
+shows-step m (Await w) h b = record { visible = refl; buffered = b }
 shows-step m (RingWrite covered value) h b = shows-written m value (covered && may_write m) (is_mailbox m.settings) b b
 shows-step m (RingRead covered) h b = shows-read m (covered && may_read m) (is_mailbox m.settings) b
 shows-step m (AppPut i x) h b = shows-step_put m i x b

@@ -30,6 +30,7 @@ calls_law = record {
   set_locked = λ m locked. refl;
   empty = λ m. refl;
   publish_zeros = λ m. refl;
+  await_value = λ m awaited. refl;
   ring_write = λ m touched written. refl;
   store = λ m value may. sym (if_true _ _ _ may);
   ring_read = λ m touched. refl;

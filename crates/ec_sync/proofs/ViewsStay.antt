@@ -6,7 +6,7 @@ use Rattle.std.proofs.lemmas.List.Elements.{All-head, All-tail}
 use Rattle.ec_bits.specs.Bits.{zeros}
 use Rattle.ec_sync.specs.Buffer.{app_written, app_read, publishing}
 use Rattle.ec_sync.specs.SyncManager.{SyncManager, may_write, may_read, may_app_put, may_app_get, app_put, app_got, after_get, message_in, may_put_message, padded}
-use Rattle.ec_sync.specs.Runs.{Operation, Configure, Lock, Empty, PublishZeros, RingWrite, RingRead, AppPut, AppGet, MessageTake, MessagePut, step, run, draft_for, OpensNoView, OpensNoDraft, with_puts, ViewsStay, DraftsAreTheBytesPut}
+use Rattle.ec_sync.specs.Runs.{Operation, Configure, Lock, Empty, PublishZeros, Await, RingWrite, RingRead, AppPut, AppGet, MessageTake, MessagePut, step, run, draft_for, OpensNoView, OpensNoDraft, with_puts, ViewsStay, DraftsAreTheBytesPut}
 use Rattle.ec_sync.proofs.WholeValues.{none_some, put_if, got_if}
 
 -- none is open, or the one with these bytes
@@ -64,7 +64,8 @@ view-step v m (Configure settings) h a = inl refl
 view-step v m (Lock locked) h a = a
 view-step v m Empty h a = inl refl
 view-step v m PublishZeros h a = a
-view-step v m (RingWrite covered value) h a = view-if v (covered && may_write m) _ m (view-if v (m.settings.control % 4 == 2) (record m { mail = Some value }) (record m { buffer = publishing m.buffer value }) a a) a
+view-step v m (Await b) h a = a
+view-step v m (RingWrite covered value) h a = view-if v (covered && may_write m) _ m (view-if v (m.settings.control % 4 == 2) (record m { mail = Some value }) (record m { buffer = publishing m.buffer value; awaited = false }) a a) a
 view-step v m (RingRead covered) h a = view-if v (covered && may_read m) _ m (view-if v (m.settings.control % 4 == 2) (record m { mail = None }) m a a) a
 view-step v m (AppPut i x) h a = view-step_put v m i x a
 view-step v m (AppGet i) h a = view-step_get v m i h a
@@ -138,8 +139,9 @@ draft-run d m (Configure settings ∷ ops) h a = draft-run d (step m (Configure 
 draft-run d m (Lock locked ∷ ops) h a = draft-run d (step m (Lock locked)) ops (All-tail OpensNoDraft _ ops h) a
 draft-run d m (Empty ∷ ops) h a = draft-run d (step m Empty) ops (All-tail OpensNoDraft _ ops h) (inl refl)
 draft-run d m (PublishZeros ∷ ops) h a = draft-run d (step m PublishZeros) ops (All-tail OpensNoDraft _ ops h) a
+draft-run d m (Await b ∷ ops) h a = draft-run d (step m (Await b)) ops (All-tail OpensNoDraft _ ops h) a
 draft-run d m (RingWrite covered value ∷ ops) h a = draft-run d (step m (RingWrite covered value)) ops (All-tail OpensNoDraft _ ops h)
-    (draft-if d (covered && may_write m) _ m (draft-if d (m.settings.control % 4 == 2) (record m { mail = Some value }) (record m { buffer = publishing m.buffer value }) a a) a)
+    (draft-if d (covered && may_write m) _ m (draft-if d (m.settings.control % 4 == 2) (record m { mail = Some value }) (record m { buffer = publishing m.buffer value; awaited = false }) a a) a)
 draft-run d m (RingRead covered ∷ ops) h a = draft-run d (step m (RingRead covered)) ops (All-tail OpensNoDraft _ ops h)
     (draft-if d (covered && may_read m) _ m (draft-if d (m.settings.control % 4 == 2) (record m { mail = None }) m a a) a)
 draft-run d m (AppPut i x ∷ ops) h a = draft-run (if is_some (app_put m i x) then slice_set d i x else d) (step m (AppPut i x)) ops (All-tail OpensNoDraft _ ops h)

@@ -5,7 +5,7 @@ use Rattle.std.proofs.lemmas.List.Elements.{Contains-append_left, Contains-push}
 use Rattle.ec_bits.specs.Bits.{zeros}
 use Rattle.ec_sync.specs.Buffer.{Buffer, Got, app_written, app_read, publishing}
 use Rattle.ec_sync.specs.SyncManager.{SyncManager, no_manager, buffer_length, may_write, may_read, may_app_put, may_app_get, app_got, after_get, message_in, may_put_message, padded, is_enabled}
-use Rattle.ec_sync.specs.Runs.{Operation, Configure, Lock, Empty, PublishZeros, RingWrite, RingRead, AppPut, AppGet, MessageTake, MessagePut, step, run, draft_for, only, publications, history, visible_to, OnlyWholeValues, BytesOfTheView}
+use Rattle.ec_sync.specs.Runs.{Operation, Configure, Lock, Empty, PublishZeros, Await, RingWrite, RingRead, AppPut, AppGet, MessageTake, MessagePut, step, run, draft_for, only, publications, history, visible_to, OnlyWholeValues, BytesOfTheView}
 
 -- all that a reader could get is in the history
 pub record Known (h : List (List ℕ)) (m : SyncManager) : Type 0 where
@@ -40,8 +40,8 @@ known-emptied h m n p a b = record {
   mail = λ v e. absurd (let f : None ≡ Some v = cc in none_some v f);
 }
 
-known-publishing : (h : List (List ℕ)) (m : SyncManager) (w : List ℕ) → Known h m → Known (h ++ w ∷ []) (record m { buffer = publishing m.buffer w })
-known-publishing h m w a = record {
+known-publishing : (h : List (List ℕ)) (m : SyncManager) (w : List ℕ) (f : Bool) → Known h m → Known (h ++ w ∷ []) (record m { buffer = publishing m.buffer w; awaited = f })
+known-publishing h m w f a = record {
   published = Contains-push h w;
   view = λ v e. Contains-append_left h (w ∷ []) v (a.view v e);
   mail = λ v e. Contains-append_left h (w ∷ []) v (a.mail v e);
@@ -58,12 +58,12 @@ known-no_mail : (h : List (List ℕ)) (m : SyncManager) → Known h m → Known 
 known-no_mail h m a = record { published = a.published; view = a.view; mail = λ v e. nothing h v e }
 
 known-stored : (h : List (List ℕ)) (m : SyncManager) (w : List ℕ) (is_mail : Bool) → Known h m
-    → Known (h ++ w ∷ []) (if is_mail then record m { mail = Some w } else record m { buffer = publishing m.buffer w })
+    → Known (h ++ w ∷ []) (if is_mail then record m { mail = Some w } else record m { buffer = publishing m.buffer w; awaited = false })
 known-stored h m w true a = known-mail h m w a
-known-stored h m w false a = known-publishing h m w a
+known-stored h m w false a = known-publishing h m w false a
 
 known-written : (h : List (List ℕ)) (m : SyncManager) (w : List ℕ) (granted is_mail : Bool) → Known h m
-    → Known (h ++ (if granted then w ∷ [] else [])) (if granted then (if is_mail then record m { mail = Some w } else record m { buffer = publishing m.buffer w }) else m)
+    → Known (h ++ (if granted then w ∷ [] else [])) (if granted then (if is_mail then record m { mail = Some w } else record m { buffer = publishing m.buffer w; awaited = false }) else m)
 known-written h m w true is_mail a = known-stored h m w is_mail a
 known-written h m w false is_mail a = known-more h [] m a
 
@@ -141,7 +141,8 @@ pub known-step : (h : List (List ℕ)) (m : SyncManager) (o : Operation) → Kno
 known-step h m (Configure settings) a = known-emptied h _ (buffer_length settings) refl refl refl
 known-step h m (Lock locked) a = known-more h [] _ (record { published = a.published; view = a.view; mail = a.mail })
 known-step h m Empty a = known-emptied h _ (buffer_length m.settings) refl refl refl
-known-step h m PublishZeros a = known-publishing h m (zeros (length m.buffer.published)) a
+known-step h m PublishZeros a = known-publishing h m (zeros (length m.buffer.published)) m.awaited a
+known-step h m (Await b) a = known-more h [] _ (record { published = a.published; view = a.view; mail = a.mail })
 known-step h m (RingWrite covered value) a = known-written h m value (covered && may_write m) (m.settings.control % 4 == 2) a
 known-step h m (RingRead covered) a = known-read h m (covered && may_read m) (m.settings.control % 4 == 2) a
 known-step h m (AppPut i x) a = known-step_put h m i x a
@@ -175,6 +176,7 @@ known-visible_to h m (Configure settings) v a e = nothing h v e
 known-visible_to h m (Lock locked) v a e = nothing h v e
 known-visible_to h m Empty v a e = nothing h v e
 known-visible_to h m PublishZeros v a e = nothing h v e
+known-visible_to h m (Await b) v a e = nothing h v e
 known-visible_to h m (RingWrite covered value) v a e = nothing h v e
 known-visible_to h m (RingRead covered) v a e = known-visible h m covered (is_enabled m) (m.settings.control / 4 % 4 == 0) (m.settings.control % 4 == 2) m.mail v a.published a.mail e
 known-visible_to h m (AppPut i x) v a e = nothing h v e

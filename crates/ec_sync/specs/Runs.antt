@@ -7,7 +7,7 @@ use Rattle.ec_bits.specs.Bits.{zeros}
 use Rattle.ec_regs.specs.declared.manager.SyncManagerSettings.{SyncManagerSettings}
 use Rattle.ec_regs.specs.Managers.{settings_of, manager_bytes, is_mailbox}
 use Rattle.ec_sync.specs.Buffer.{Got}
-use Rattle.ec_sync.specs.SyncManager.{SyncManager, no_manager, buffer_length, empty_manager, zeros_published, may_read, may_write, may_app_put, may_app_get, ring_written, ring_read, visible, app_put, app_got, after_get, message_in, message_taken, may_put_message, padded, message_put}
+use Rattle.ec_sync.specs.SyncManager.{SyncManager, no_manager, buffer_length, empty_manager, zeros_published, may_read, may_write, may_app_put, may_app_get, ring_written, ring_read, visible, app_put, app_got, after_get, message_in, message_taken, may_put_message, padded, message_put, awaiting}
 use Rattle.ec_sync.specs.Sound.{IsManager}
 use Rattle.ec_sync.specs.Governing.{manager_byte, covers, after_ring_write, after_ring_read}
 
@@ -17,6 +17,7 @@ pub data Operation : Type 0 where
   Lock : Bool → Operation
   Empty : Operation
   PublishZeros : Operation
+  Await : Bool → Operation
   RingWrite : Bool → List ℕ → Operation
   RingRead : Bool → Operation
   AppPut : ℕ → ℕ → Operation
@@ -30,6 +31,7 @@ step m (Configure settings) = empty_manager settings m.locked
 step m (Lock locked) = record m { locked = locked }
 step m Empty = empty_manager m.settings m.locked
 step m PublishZeros = zeros_published m
+step m (Await awaited) = awaiting m awaited
 step m (RingWrite covered value) = if covered && may_write m then ring_written m value else m
 step m (RingRead covered) = if covered && may_read m then ring_read m else m
 step m (AppPut i x) = unwrap_or (app_put m i x) m
@@ -66,6 +68,7 @@ publications m (Configure settings) = zeros (buffer_length settings) ∷ []
 publications m (Lock locked) = []
 publications m Empty = zeros (buffer_length m.settings) ∷ []
 publications m PublishZeros = zeros (length m.buffer.published) ∷ []
+publications m (Await awaited) = []
 publications m (RingWrite covered value) = if covered && may_write m then value ∷ [] else []
 publications m (RingRead covered) = []
 publications m (AppPut i x) = only (closed_draft m i x)
@@ -175,6 +178,7 @@ pub record CallsAreSteps : Type 0 where
   pub set_locked : (m : SyncManager) (locked : Bool) → record m { locked = locked } ≡ step m (Lock locked)
   pub empty : (m : SyncManager) → empty_manager m.settings m.locked ≡ step m Empty
   pub publish_zeros : (m : SyncManager) → zeros_published m ≡ step m PublishZeros
+  pub await_value : (m : SyncManager) (awaited : Bool) → awaiting m awaited ≡ step m (Await awaited)
   pub ring_write : (m : SyncManager) (touched : ℕ → Bool) (written : ℕ → ℕ → List ℕ)
       → after_ring_write touched written m ≡ step m (RingWrite (covers touched m) (written m.settings.start m.settings.length))
   pub store : (m : SyncManager) (value : List ℕ) → may_write m ≡ true → ring_written m value ≡ step m (RingWrite true value)

@@ -8,11 +8,12 @@ use Rattle.ec_regs.specs.Managers.{no_settings, is_set, is_mailbox, is_buffered,
 use Rattle.ec_sync.specs.Buffer.{Buffer, Got, emptied_buffer, publishing, app_written, app_read}
 
 -- `locked` is its deactivate bit, which the slave's side sets. `buffer` counts if it is set and buffered, `mail`,
--- the message of a full mailbox, if it is a mailbox.
+-- the message of a full mailbox, if it is a mailbox. `awaited` says that the firmware awaits the ring's next value.
 pub record SyncManager : Type 0 where
   pub settings : SyncManagerSettings
   pub locked : Bool
   pub buffer : Buffer
+  pub awaited : Bool
   pub mail : Option (List ℕ)
 
 -- ---- empty
@@ -21,9 +22,9 @@ pub record SyncManager : Type 0 where
 abbrev pub buffer_length : SyncManagerSettings → ℕ
 buffer_length m = if is_set m && is_buffered m then m.length else 0
 
--- zeros, no draft, no view, no message
+-- zeros, no draft, no view, no message, nothing awaited
 abbrev pub empty_manager : SyncManagerSettings → Bool → SyncManager
-empty_manager m locked = record { settings = m; locked = locked; buffer = emptied_buffer (buffer_length m); mail = None }
+empty_manager m locked = record { settings = m; locked = locked; buffer = emptied_buffer (buffer_length m); awaited = false; mail = None }
 
 -- the place of a set manager's value: a byte at least, inside the RAM
 pub record LiesInRam (m : SyncManagerSettings) : Type 0 where
@@ -53,12 +54,12 @@ may_write m = is_enabled m && (is_master_written m.settings && (if is_mailbox m.
 abbrev pub visible : SyncManager → List ℕ
 visible m = if is_mailbox m.settings then unwrap_or m.mail [] else m.buffer.published
 
--- after a ring write of a whole value: a mailbox is full of it, a buffered manager has published it
+-- after a ring write of a whole value: a mailbox is full of it, a buffered manager has published it, and it is awaited no more
 abbrev pub ring_written : SyncManager → List ℕ → SyncManager
 ring_written m value =
     if is_mailbox m.settings
     then record m { mail = Some value }
-    else record m { buffer = publishing m.buffer value }
+    else record m { buffer = publishing m.buffer value; awaited = false }
 
 -- after a ring read: a mailbox is empty
 abbrev pub ring_read : SyncManager → SyncManager
@@ -106,6 +107,10 @@ padded m message = message ++ zeros (m.settings.length - length message)
 -- the firmware puts it
 abbrev pub message_put : SyncManager → List ℕ → SyncManager
 message_put m message = if may_put_message m (length message) then record m { mail = Some (padded m message) } else m
+
+-- the firmware awaits the ring's next value from now on, or none
+abbrev pub awaiting : SyncManager → Bool → SyncManager
+awaiting m awaited = record m { awaited = awaited }
 
 -- zeros are published if there is a published value; an open draft and an open view stay
 abbrev pub zeros_published : SyncManager → SyncManager

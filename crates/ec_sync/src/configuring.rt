@@ -1,7 +1,7 @@
 //! Settings, the deactivate bit, and what empties a manager.
 
 ghost use Rattle.std.specs.Prelude.{◌≡◌, ◌≤◌};
-ghost use Rattle.ec_sync.specs.SyncManager.{buffer_length as buffer_length_of, empty_manager, zeros_published};
+ghost use Rattle.ec_sync.specs.SyncManager.{awaiting, buffer_length as buffer_length_of, empty_manager, zeros_published};
 
 use crate::bounds::Bounds;
 use crate::manager::SyncManager;
@@ -15,6 +15,7 @@ impl SyncManager {
     {
         self.settings = settings;
         self.bounds = Bounds::of(settings);
+        self.is_awaited = false;
         self.mail.empty();
         self.buffer.empty(buffer_length(settings));
     }
@@ -26,10 +27,11 @@ impl SyncManager {
         self.is_locked = is_locked;
     }
 
-    /// Empties it: zeros, no draft, no view, no message.
+    /// Empties it: zeros, no draft, no view, no message, nothing awaited.
     pub fn empty(&mut self)
         ensures { self.new ≡ empty_manager self.old.settings self.old.locked }
     {
+        self.is_awaited = false;
         self.mail.empty();
         self.buffer.empty(buffer_length(self.settings));
     }
@@ -40,6 +42,13 @@ impl SyncManager {
         ensures { self.new ≡ zeros_published self.old }
     {
         self.buffer.publish_zeros();
+    }
+
+    /// The firmware awaits the ring's next value from now on, or none.
+    pub fn await_value(&mut self, is_awaited: bool)
+        ensures { self.new ≡ awaiting self.old is_awaited }
+    {
+        self.is_awaited = is_awaited;
     }
 }
 

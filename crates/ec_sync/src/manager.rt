@@ -25,6 +25,8 @@ pub struct SyncManager {
     pub(crate) bounds: Bounds,
     pub(crate) is_locked: bool,
     pub(crate) buffer: Buffer,
+    // the firmware awaits the ring's next value
+    pub(crate) is_awaited: bool,
     pub(crate) mail: Mail,
 }
 
@@ -36,7 +38,7 @@ impl Model for SyncManager {
     ghost Value = { ManagerState };
 
     ghost view = { λ m.
-        record { settings = m.settings; locked = m.is_locked; buffer = m.buffer; mail = m.mail } };
+        record { settings = m.settings; locked = m.is_locked; buffer = m.buffer; awaited = m.is_awaited; mail = m.mail } };
 
     ghost invariant = { λ m.
         (length m.buffer.published ≡ buffer_length m.settings) × (m.bounds ≡ bounds_of m.settings) };
@@ -58,6 +60,7 @@ impl SyncManager {
             bounds: Bounds::of(settings),
             is_locked: false,
             buffer: Buffer::new(alloc)?,
+            is_awaited: false,
             mail: Mail::new(alloc)?,
         })
     }
@@ -85,6 +88,14 @@ impl SyncManager {
         ensures inside { OnTrue result (LiesInRam self.now.settings) }
     {
         self.is_set() && !self.is_locked
+    }
+
+    /// Whether the firmware awaits the ring's next value: it did so by `await_value`, and since then the ring has written none
+    /// and nothing has emptied the manager.
+    pub fn is_awaited(&self) -> bool
+        ensures { result ≡ self.now.awaited }
+    {
+        self.is_awaited
     }
 
     /// The bounds of its bytes in the memory, in byte addresses.

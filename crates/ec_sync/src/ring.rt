@@ -42,6 +42,7 @@ impl SyncManager {
         if self.settings.is_mailbox() {
             self.mail.fill(start, len, writing);
         } else {
+            self.is_awaited = false;
             self.buffer.publish(start, len, writing);
         }
     }

@@ -4,4 +4,4 @@ use Rattle.ec_table.specs.Contents.{Contents}
 use Rattle.ec_table.specs.Sound.{IsSound}
 
 pub sound_shown : (c : Contents) (full : Bool) → IsSound c → IsSound (record c { full = full })
-sound_shown c full h = record { types = h.types; slaves = h.slaves; variables = h.variables; links = h.links }
+sound_shown c full h = record { types = h.types; slaves = h.slaves; variables = h.variables; links = h.links; format = record { types = h.format.types; variables = h.format.variables } }

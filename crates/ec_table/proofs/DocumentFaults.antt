@@ -1,15 +1,15 @@
 -- The faults of a document before its elements.
 use Rattle.std.proofs.Common.{◌≡◌, ℕ, List, Bool, true, false, IsTrue, Result, Ok, Err, Option, Some, None, if◌then◌else◌, option_and_then, codes, refl, ap}
 use Rattle.std.specs.Option.{ok_or}
-use Rattle.toml.specs.Data.{Data, no_items, Members, get_member, as_integer, as_array}
+use Rattle.toml.specs.Data.{Data, no_items, Members, get_member, as_integer, as_bool, as_array}
 use Rattle.toml.specs.Parse.{parse_document}
 use Rattle.ec_table.specs.declared.fault.Fault.{Fault}
 use Rattle.ec_table.specs.declared.fault.Fault.TheVariants.{Toml, BadKey, BadValue}
 use Rattle.ec_table.specs.declared.fault.Position.{Position}
-use Rattle.ec_table.specs.declared.rows.Version.{Version}
+use Rattle.ec_table.specs.declared.rows.Format.{Format}
 use Rattle.ec_table.specs.declared.keys.Shape.TheVariants as shape
-use Rattle.ec_table.specs.Fields.{◌>>=◌, must, keys_are, number_in, in_range, magnitude, version_in, section_in, are_tables}
-use Rattle.ec_table.specs.Reading.{top, table_of_document, table_of}
+use Rattle.ec_table.specs.Fields.{◌>>=◌, must, keys_are, number_in, in_range, magnitude, version_in, truth_in, format_in, section_in, are_tables}
+use Rattle.ec_table.specs.Reading.{top, stated_format, table_of_document, table_of}
 use Rattle.ec_table.specs.Laws.{DocumentFaultsInOrder}
 
 -- no other fault
@@ -43,6 +43,16 @@ unfolding version_in
 version_only p None = only_ok _ (BadValue p)
 version_only p (Some d) = only_then (number_in p 1 2 (Some d)) _ (BadValue p) (number_only p 1 2 (Some d)) (λ n. only_ok _ (BadValue p))
 
+truth_only : (p : Position) (left_out : Bool) (v : Option Data) → Only (truth_in p left_out v) (BadValue p)
+truth_only p left_out None = only_ok left_out (BadValue p)
+truth_only p left_out (Some d) = only_none (as_bool d) (BadValue p)
+
+format_only : (p : Position) (version hardware : Option Data) → Only (format_in p version hardware) (BadValue p)
+unfolding format_in
+format_only p version hardware =
+    only_then (version_in p version) _ (BadValue p) (version_only p version) (λ v.
+    only_then (truth_in p false hardware) _ (BadValue p) (truth_only p false hardware) (λ h. only_ok _ (BadValue p)))
+
 section_only : (p : Position) (v : Option Data) → Only (section_in p v) (BadValue p)
 unfolding section_in
 section_only p None = only_ok no_items (BadValue p)
@@ -62,30 +72,30 @@ text_told : (text : List ℕ) → parse_document text ≡ None → table_of text
 unfolding table_of
 text_told text h = rw h refl
 
-version_told : (ms : Members) (f : Fault) → version_in top (get_member (codes "version") ms) ≡ Err f → table_of_document ms ≡ Err (BadValue top)
+format_told : (ms : Members) (f : Fault) → stated_format ms ≡ Err f → table_of_document ms ≡ Err (BadValue top)
 unfolding table_of_document
-version_told ms f h = let e : f ≡ BadValue top = (version_only top (get_member (codes "version") ms)).only f h in rw h (ap Err e)
+format_told ms f h = let e : f ≡ BadValue top = (format_only top (get_member (codes "version") ms) (get_member (codes "hardware") ms)).only f h in rw h (ap Err e)
 
-keys_told : (ms : Members) (v : Version) → version_in top (get_member (codes "version") ms) ≡ Ok v → keys_are shape.Document v ms ≡ false → table_of_document ms ≡ Err (BadKey top)
+keys_told : (ms : Members) (v : Format) → stated_format ms ≡ Ok v → keys_are shape.Document v ms ≡ false → table_of_document ms ≡ Err (BadKey top)
 unfolding table_of_document
 keys_told ms v h k = rw (h, k) refl
 
-types_told : (ms : Members) (v : Version) (f : Fault) → version_in top (get_member (codes "version") ms) ≡ Ok v → IsTrue (keys_are shape.Document v ms) → section_in top (get_member (codes "type") ms) ≡ Err f → table_of_document ms ≡ Err (BadValue top)
+types_told : (ms : Members) (v : Format) (f : Fault) → stated_format ms ≡ Ok v → IsTrue (keys_are shape.Document v ms) → section_in top (get_member (codes "type") ms) ≡ Err f → table_of_document ms ≡ Err (BadValue top)
 unfolding table_of_document
 types_told ms v f h k s = rw (h, k, section_fails _ f s) refl
 
-slaves_told : (ms : Members) (v : Version) (f : Fault) → version_in top (get_member (codes "version") ms) ≡ Ok v → IsTrue (keys_are shape.Document v ms) → section_in top (get_member (codes "slave") ms) ≡ Err f → table_of_document ms ≡ Err (BadValue top)
+slaves_told : (ms : Members) (v : Format) (f : Fault) → stated_format ms ≡ Ok v → IsTrue (keys_are shape.Document v ms) → section_in top (get_member (codes "slave") ms) ≡ Err f → table_of_document ms ≡ Err (BadValue top)
 unfolding table_of_document
 slaves_told ms v f h k s =
     rw (h, k) (after (section_in top (get_member (codes "type") ms)) _ (BadValue top) (section_only top _) (λ ts. rw (section_fails _ f s) refl))
 
-variables_told : (ms : Members) (v : Version) (f : Fault) → version_in top (get_member (codes "version") ms) ≡ Ok v → IsTrue (keys_are shape.Document v ms) → section_in top (get_member (codes "variable") ms) ≡ Err f → table_of_document ms ≡ Err (BadValue top)
+variables_told : (ms : Members) (v : Format) (f : Fault) → stated_format ms ≡ Ok v → IsTrue (keys_are shape.Document v ms) → section_in top (get_member (codes "variable") ms) ≡ Err f → table_of_document ms ≡ Err (BadValue top)
 unfolding table_of_document
 variables_told ms v f h k s =
     rw (h, k) (after (section_in top (get_member (codes "type") ms)) _ (BadValue top) (section_only top _) (λ ts.
     after (section_in top (get_member (codes "slave") ms)) _ (BadValue top) (section_only top _) (λ ss. rw (section_fails _ f s) refl)))
 
-links_told : (ms : Members) (v : Version) (f : Fault) → version_in top (get_member (codes "version") ms) ≡ Ok v → IsTrue (keys_are shape.Document v ms) → section_in top (get_member (codes "link") ms) ≡ Err f → table_of_document ms ≡ Err (BadValue top)
+links_told : (ms : Members) (v : Format) (f : Fault) → stated_format ms ≡ Ok v → IsTrue (keys_are shape.Document v ms) → section_in top (get_member (codes "link") ms) ≡ Err f → table_of_document ms ≡ Err (BadValue top)
 unfolding table_of_document
 links_told ms v f h k s =
     rw (h, k) (after (section_in top (get_member (codes "type") ms)) _ (BadValue top) (section_only top _) (λ ts.
@@ -93,4 +103,4 @@ links_told ms v f h k s =
     after (section_in top (get_member (codes "variable") ms)) _ (BadValue top) (section_only top _) (λ ws. rw (section_fails _ f s) refl))))
 
 pub document_faults : DocumentFaultsInOrder
-document_faults = record { text = text_told; version = version_told; keys = keys_told; types = types_told; slaves = slaves_told; variables = variables_told; links = links_told }
+document_faults = record { text = text_told; format = format_told; keys = keys_told; types = types_told; slaves = slaves_told; variables = variables_told; links = links_told }

@@ -4,12 +4,12 @@ use Rattle.std.proofs.lemmas.List.{append-nil}
 use Rattle.toml.specs.Data.{Data, Members}
 use Rattle.toml.specs.View.{items_of}
 use Rattle.ec_table.specs.declared.fault.Fault.{Fault}
-use Rattle.ec_table.specs.declared.rows.Version.{Version}
+use Rattle.ec_table.specs.declared.rows.Format.{Format}
 use Rattle.ec_table.specs.declared.rows.TypeRow.{TypeRow}
 use Rattle.ec_table.specs.declared.rows.SlaveRow.{SlaveRow}
 use Rattle.ec_table.specs.declared.rows.VariableRow.{VariableRow}
 use Rattle.ec_table.specs.declared.rows.LinkRow.{LinkRow}
-use Rattle.ec_table.specs.Contents.{Contents, as_stated}
+use Rattle.ec_table.specs.Contents.{Contents, format_of, as_stated}
 use Rattle.ec_table.specs.Fields.{◌>>=◌}
 use Rattle.ec_table.specs.InOrder.{rows_after}
 use Rattle.ec_table.specs.Reading.{type_element, slave_element, variable_element, link_element, table_of_document, table_of_sections}
@@ -61,34 +61,34 @@ rest row before d after xs f read fault = rw (read, zero-add, fault) refl
 pub section_fails : {X : Type 0} (row : ℕ → Data → List X → Result X Fault) (before : List Data) (d : Data) (after : List Data) (xs : List X) (f : Fault) → EachReads row before xs → row (length before) d xs ≡ Err f → rows_after row [] 0 (items_of (before ++ d ∷ after)) ≡ Err f
 section_fails row before d after xs f h fault = rows_append row [] 0 before (d ∷ after) ∙ rest row before d after xs f (section_each row before xs h) fault
 
-pub accepted : (ms : Members) (types slaves variables links : List Data) (c : Contents) → HasSections ms c.version types slaves variables links → AllRead types slaves variables links c → table_of_document ms ≡ Ok (as_stated c)
+pub accepted : (ms : Members) (types slaves variables links : List Data) (c : Contents) → HasSections ms (format_of c) types slaves variables links → AllRead types slaves variables links c → table_of_document ms ≡ Ok (as_stated c)
 unfolding table_of_document table_of_sections
 accepted ms types slaves variables links c h r =
-    rw (h.version, h.keys, h.types, h.slaves, h.variables, h.links, section_each (type_element c.version) types c.types r.types, section_each (slave_element c.version c.types) slaves c.slaves r.slaves, section_each (variable_element c.version) variables c.variables r.variables, section_each (link_element c.version c.slaves c.variables) links c.links r.links) refl
+    rw (h.format, h.keys, h.types, h.slaves, h.variables, h.links, section_each (type_element (format_of c)) types c.types r.types, section_each (slave_element (format_of c) c.types) slaves c.slaves r.slaves, section_each (variable_element (format_of c)) variables c.variables r.variables, section_each (link_element (format_of c) c.slaves c.variables) links c.links r.links) refl
 
-pub type_told : (ms : Members) (v : Version) (before : List Data) (d : Data) (after slaves variables links : List Data) (ts : List TypeRow) (f : Fault) → HasSections ms v (before ++ d ∷ after) slaves variables links
+pub type_told : (ms : Members) (v : Format) (before : List Data) (d : Data) (after slaves variables links : List Data) (ts : List TypeRow) (f : Fault) → HasSections ms v (before ++ d ∷ after) slaves variables links
     → EachReads (type_element v) before ts → type_element v (length before) d ts ≡ Err f → table_of_document ms ≡ Err f
 unfolding table_of_document table_of_sections
 type_told ms v before d after slaves variables links ts f h r fault =
-    rw (h.version, h.keys, h.types, h.slaves, h.variables, h.links, section_fails (type_element v) before d after ts f r fault) refl
+    rw (h.format, h.keys, h.types, h.slaves, h.variables, h.links, section_fails (type_element v) before d after ts f r fault) refl
 
-pub slave_told : (ms : Members) (v : Version) (types before : List Data) (d : Data) (after variables links : List Data) (ts : List TypeRow) (ss : List SlaveRow) (f : Fault) → HasSections ms v types (before ++ d ∷ after) variables links
+pub slave_told : (ms : Members) (v : Format) (types before : List Data) (d : Data) (after variables links : List Data) (ts : List TypeRow) (ss : List SlaveRow) (f : Fault) → HasSections ms v types (before ++ d ∷ after) variables links
     → EachReads (type_element v) types ts → EachReads (slave_element v ts) before ss → slave_element v ts (length before) d ss ≡ Err f → table_of_document ms ≡ Err f
 unfolding table_of_document table_of_sections
 slave_told ms v types before d after variables links ts ss f h rt rs fault =
-    rw (h.version, h.keys, h.types, h.slaves, h.variables, h.links, section_each (type_element v) types ts rt, section_fails (slave_element v ts) before d after ss f rs fault) refl
+    rw (h.format, h.keys, h.types, h.slaves, h.variables, h.links, section_each (type_element v) types ts rt, section_fails (slave_element v ts) before d after ss f rs fault) refl
 
-pub variable_told : (ms : Members) (v : Version) (types slaves before : List Data) (d : Data) (after links : List Data) (ts : List TypeRow) (ss : List SlaveRow) (ws : List VariableRow) (f : Fault) → HasSections ms v types slaves (before ++ d ∷ after) links
+pub variable_told : (ms : Members) (v : Format) (types slaves before : List Data) (d : Data) (after links : List Data) (ts : List TypeRow) (ss : List SlaveRow) (ws : List VariableRow) (f : Fault) → HasSections ms v types slaves (before ++ d ∷ after) links
     → EachReads (type_element v) types ts → EachReads (slave_element v ts) slaves ss → EachReads (variable_element v) before ws → variable_element v (length before) d ws ≡ Err f → table_of_document ms ≡ Err f
 unfolding table_of_document table_of_sections
 variable_told ms v types slaves before d after links ts ss ws f h rt rs rv fault =
-    rw (h.version, h.keys, h.types, h.slaves, h.variables, h.links, section_each (type_element v) types ts rt, section_each (slave_element v ts) slaves ss rs, section_fails (variable_element v) before d after ws f rv fault) refl
+    rw (h.format, h.keys, h.types, h.slaves, h.variables, h.links, section_each (type_element v) types ts rt, section_each (slave_element v ts) slaves ss rs, section_fails (variable_element v) before d after ws f rv fault) refl
 
-pub link_told : (ms : Members) (v : Version) (types slaves variables before : List Data) (d : Data) (after : List Data) (ts : List TypeRow) (ss : List SlaveRow) (ws : List VariableRow) (ls : List LinkRow) (f : Fault) → HasSections ms v types slaves variables (before ++ d ∷ after)
+pub link_told : (ms : Members) (v : Format) (types slaves variables before : List Data) (d : Data) (after : List Data) (ts : List TypeRow) (ss : List SlaveRow) (ws : List VariableRow) (ls : List LinkRow) (f : Fault) → HasSections ms v types slaves variables (before ++ d ∷ after)
     → EachReads (type_element v) types ts → EachReads (slave_element v ts) slaves ss → EachReads (variable_element v) variables ws → EachReads (link_element v ss ws) before ls → link_element v ss ws (length before) d ls ≡ Err f → table_of_document ms ≡ Err f
 unfolding table_of_document table_of_sections
 link_told ms v types slaves variables before d after ts ss ws ls f h rt rs rv rl fault =
-    rw (h.version, h.keys, h.types, h.slaves, h.variables, h.links, section_each (type_element v) types ts rt, section_each (slave_element v ts) slaves ss rs, section_each (variable_element v) variables ws rv, section_fails (link_element v ss ws) before d after ls f rl fault) refl
+    rw (h.format, h.keys, h.types, h.slaves, h.variables, h.links, section_each (type_element v) types ts rt, section_each (slave_element v ts) slaves ss rs, section_each (variable_element v) variables ws rv, section_fails (link_element v ss ws) before d after ls f rl fault) refl
 
 pub first_told : FirstFaultIsReturned
 first_told = record { types = type_told; slaves = slave_told; variables = variable_told; links = link_told }

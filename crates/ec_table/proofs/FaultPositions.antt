@@ -7,15 +7,19 @@ use Rattle.toml.specs.Data.{Data, string, integer, float, boolean, datetime, arr
 use Rattle.ec_table.specs.declared.fault.Fault.{Fault}
 use Rattle.ec_table.specs.declared.fault.Fault.TheVariants.{BadKey, BadValue, TwiceNamed, UnknownName}
 use Rattle.ec_table.specs.declared.fault.Position.{Position}
-use Rattle.ec_table.specs.declared.rows.Version.{Version}
+use Rattle.ec_table.specs.declared.rows.Format.{Format}
+use Rattle.ec_device.specs.declared.hardware.ProcessManager.{ProcessManager}
+use Rattle.ec_device.specs.declared.hardware.Hardware.{Hardware}
+use Rattle.ec_device.specs.Hardware.{usual_outputs, usual_inputs}
+use Rattle.ec_table.specs.declared.rows.ProcessData.{ProcessData}
 use Rattle.ec_table.specs.declared.rows.TypeRow.{TypeRow}
 use Rattle.ec_table.specs.declared.rows.SlaveRow.{SlaveRow}
 use Rattle.ec_table.specs.declared.rows.VariableRow.{VariableRow}
 use Rattle.ec_table.specs.Faults.{fault_position}
-use Rattle.ec_table.specs.Fields.{◌>>=◌, must, in_range, magnitude, is_name, number_in, name_in, mailbox_of, mailbox_in, direction_in, link_bits_of, link_bits_in, number_or_0, truth_in}
+use Rattle.ec_table.specs.Fields.{◌>>=◌, must, in_range, magnitude, is_name, number_in, name_in, mailbox_of, mailbox_in, direction_in, link_bits_of, link_bits_in, number_or_0, truth_in, manager_of, manager_in, fmmus_in}
 use Rattle.ec_table.specs.InOrder.{members_in, rows_after}
 use Rattle.ec_table.specs.Pdos.{entry_of, entry_row, array_of, array_in, pdo_of, pdo_row, pdos_in, number_row, number_list, numbers_in, indices_of, has_twice}
-use Rattle.ec_table.specs.Reading.{device_in, process_in, type_at, type_named, assigned_in, all_in, same_list, slave_at, slave_named, slave_of_type, variable_at, link_at}
+use Rattle.ec_table.specs.Reading.{device_in, process_in, process_twice, described, described_if, is_possible, type_at, type_named, assigned_in, all_in, same_list, slave_at, slave_named, slave_of_type, variable_at, link_at}
 use Rattle.ec_table.specs.Names.{is_named, index_named}
 use Rattle.ec_table.specs.Laws.{FaultsHaveTheirPosition}
 
@@ -108,28 +112,52 @@ fails_pdo p low high ms =
 fails_pdos : (p : Position) (low high : ℕ) (v : Option Data) → FailsAt p (pdos_in p low high v)
 fails_pdos p low high v = fails_array p (pdo_row p low high) 16 (λ n d found. fails_members p d (pdo_of p low high) (fails_pdo p low high)) v
 
+fails_truth : (p : Position) (left_out : Bool) (v : Option Data) → FailsAt p (truth_in p left_out v)
+fails_truth p left_out None = fails_ok p left_out
+fails_truth p left_out (Some d) = fails_none p (as_bool d) (BadValue p) refl
+
+fails_number_or_0 : (p : Position) (most : ℕ) (v : Option Data) → FailsAt p (number_or_0 p most v)
+fails_number_or_0 p most None = fails_ok p 0
+fails_number_or_0 p most (Some d) = fails_number p 0 most (Some d)
+
 fails_device : (p : Position) (vendor product revision : Option Data) → FailsAt p (device_in p vendor product revision)
 unfolding device_in
 fails_device p vendor product revision =
     fails_then p _ _ (fails_number p 0 4294967295 vendor) (λ a.
     fails_then p _ _ (fails_number p 0 4294967295 product) (λ b.
-    fails_then p _ _ (fails_number p 0 4294967295 revision) (λ e. fails_ok p _)))
+    fails_then p _ _ (fails_number_or_0 p 4294967295 revision) (λ e. fails_ok p _)))
 
 fails_process : (p : Position) (out_start in_start rxpdo txpdo : Option Data) → FailsAt p (process_in p out_start in_start rxpdo txpdo)
 unfolding process_in
 fails_process p out_start in_start rxpdo txpdo =
-    fails_then p _ _ (fails_number p 0 65535 out_start) (λ a.
-    fails_then p _ _ (fails_number p 0 65535 in_start) (λ b.
+    fails_then p _ _ (fails_number_or_0 p 65535 out_start) (λ a.
+    fails_then p _ _ (fails_number_or_0 p 65535 in_start) (λ b.
     fails_then p _ _ (fails_pdos p 0x1600 0x17FF rxpdo) (λ os.
     fails_then p _ _ (fails_pdos p 0x1A00 0x1BFF txpdo) (λ is. fails_ok p _))))
 
-fails_truth : (p : Position) (v : Option Data) → FailsAt p (truth_in p v)
-fails_truth p None = fails_ok p true
-fails_truth p (Some d) = fails_none p (as_bool d) (BadValue p) refl
+fails_manager : (p : Position) (usual : ProcessManager) (v : Option Data) → FailsAt p (manager_in p usual v)
+unfolding manager_in manager_of
+fails_manager p usual None = fails_ok p usual
+fails_manager p usual (Some d) =
+    fails_then p _ _ (fails_number p 0 3 (at 0 d)) (λ a.
+    fails_then p _ _ (fails_number p 0 255 (at 1 d)) (λ b.
+    fails_then p _ _ (fails_must p _ (BadValue p) refl) (λ u. fails_ok p _)))
 
-fails_number_or_0 : (p : Position) (most : ℕ) (v : Option Data) → FailsAt p (number_or_0 p most v)
-fails_number_or_0 p most None = fails_ok p 0
-fails_number_or_0 p most (Some d) = fails_number p 0 most (Some d)
+fails_fmmus : (p : Position) (v : Option Data) → FailsAt p (fmmus_in p v)
+fails_fmmus p None = fails_ok p 4
+fails_fmmus p (Some d) = fails_number p 2 4 (Some d)
+
+fails_described : (p : Position) (process : ProcessData) (out_manager in_manager firmware fmmus revision : Option Data) → FailsAt p (described p process out_manager in_manager firmware fmmus revision)
+unfolding described
+fails_described p process out_manager in_manager firmware fmmus revision =
+    fails_then p _ _ (fails_manager p usual_outputs out_manager) (λ a.
+    fails_then p _ _ (fails_manager p usual_inputs in_manager) (λ b.
+    fails_then p _ _ (fails_truth p true firmware) (λ e.
+    fails_then p _ _ (fails_fmmus p fmmus) (λ n. fails_ok p _))))
+
+fails_described_if : (p : Position) (hardware : Bool) (read : Result Hardware Fault) → FailsAt p read → FailsAt p (described_if hardware read)
+fails_described_if p false read h = fails_ok p None
+fails_described_if p true read h = fails_then p read _ h (λ x. fails_ok p (Some x))
 
 fails_numbers : (p : Position) (low high : ℕ) (v : Option Data) → FailsAt p (numbers_in p low high v)
 unfolding number_list
@@ -160,18 +188,24 @@ fails_assigned p t s =
     fails_then p _ _ (fails_must p (all_in s.outputs (indices_of t.process.outputs) && all_in s.inputs (indices_of t.process.inputs)) (UnknownName p) refl) (λ u.
     fails_then p _ _ (fails_must p (is_some t.mailbox || (same_list s.outputs (indices_of t.process.outputs) && same_list s.inputs (indices_of t.process.inputs))) (BadValue p) refl) (λ w. fails_ok p s))
 
-pub fails_type : (v : Version) (p : Position) (ms : Members) (found : List TypeRow) → FailsAt p (type_at v p ms found)
-unfolding type_at type_named
-fails_type v p ms found =
-    fails_then p _ _ (fails_must p _ (BadKey p) refl) (λ u.
-    fails_then p _ _ (fails_name p (get_member (codes "name") ms)) (λ name.
+fails_type_named : (v : Format) (p : Position) (ms : Members) (name : List ℕ) (is_taken : Bool) → FailsAt p (type_named v p ms name is_taken)
+unfolding type_named
+fails_type_named v p ms name is_taken =
     fails_then p _ _ (fails_device p _ _ _) (λ device.
     fails_then p _ _ (fails_mailbox p (get_member (codes "mailbox") ms)) (λ mailbox.
     fails_then p _ _ (fails_process p _ _ _ _) (λ process.
-    fails_then p _ _ (fails_truth p (get_member (codes "lrw") ms)) (λ lrw.
-    fails_then p _ _ (fails_must p _ (TwiceNamed p) refl) (λ w. fails_ok p _)))))))
+    fails_then p _ _ (fails_truth p true (get_member (codes "lrw") ms)) (λ lrw.
+    fails_then p _ _ (fails_described_if p v.hardware _ (fails_described p process _ _ _ _ _)) (λ hardware.
+    fails_then p _ _ (fails_must p (not (is_taken || process_twice process)) (TwiceNamed p) refl) (λ w.
+    fails_then p _ _ (fails_must p (is_possible mailbox hardware) (BadValue p) refl) (λ x. fails_ok p _)))))))
 
-pub fails_slave : (v : Version) (ts : List TypeRow) (p : Position) (ms : Members) (found : List SlaveRow) → FailsAt p (slave_at v ts p ms found)
+pub fails_type : (v : Format) (p : Position) (ms : Members) (found : List TypeRow) → FailsAt p (type_at v p ms found)
+unfolding type_at
+fails_type v p ms found =
+    fails_then p _ _ (fails_must p _ (BadKey p) refl) (λ u.
+    fails_then p _ _ (fails_name p (get_member (codes "name") ms)) (λ name. fails_type_named v p ms name (is_named (λ (t : TypeRow). t.name) name found)))
+
+pub fails_slave : (v : Format) (ts : List TypeRow) (p : Position) (ms : Members) (found : List SlaveRow) → FailsAt p (slave_at v ts p ms found)
 unfolding slave_at slave_named slave_of_type
 fails_slave v ts p ms found =
     fails_then p _ _ (fails_must p _ (BadKey p) refl) (λ u.
@@ -185,16 +219,17 @@ fails_slave v ts p ms found =
     fails_then p _ _ (fails_none p (index_named (λ (t : TypeRow). t.name) type_name ts) (UnknownName p) refl) (λ place.
     fails_then p _ _ (fails_none p (slice_get ts place) (UnknownName p) refl) (λ t. fails_assigned p t (record { name = name; type_index = place; outputs = unwrap_or outputs (indices_of t.process.outputs); inputs = unwrap_or inputs (indices_of t.process.inputs); serial = serial; unit = unit })))))))))))
 
-pub fails_variable : (v : Version) (p : Position) (ms : Members) (found : List VariableRow) → FailsAt p (variable_at v p ms found)
+pub fails_variable : (v : Format) (p : Position) (ms : Members) (found : List VariableRow) → FailsAt p (variable_at v p ms found)
 unfolding variable_at
 fails_variable v p ms found =
     fails_then p _ _ (fails_must p _ (BadKey p) refl) (λ u.
     fails_then p _ _ (fails_name p (get_member (codes "name") ms)) (λ name.
     fails_then p _ _ (fails_direction p (get_member (codes "dir") ms)) (λ direction.
     fails_then p _ _ (fails_number p 1 64 (get_member (codes "bits") ms)) (λ bits.
-    fails_then p _ _ (fails_must p _ (TwiceNamed p) refl) (λ w. fails_ok p _)))))
+    fails_then p _ _ (fails_truth p false (get_member (codes "signed") ms)) (λ signed.
+    fails_then p _ _ (fails_must p _ (TwiceNamed p) refl) (λ w. fails_ok p _))))))
 
-pub fails_link : (v : Version) (ss : List SlaveRow) (ws : List VariableRow) (p : Position) (ms : Members) → FailsAt p (link_at v ss ws p ms)
+pub fails_link : (v : Format) (ss : List SlaveRow) (ws : List VariableRow) (p : Position) (ms : Members) → FailsAt p (link_at v ss ws p ms)
 unfolding link_at
 fails_link v ss ws p ms =
     fails_then p _ _ (fails_must p _ (BadKey p) refl) (λ u.

@@ -19,9 +19,10 @@ use Rattle.ec_table.specs.declared.keys.Rule.{Rule}
 use Rattle.ec_table.specs.declared.keys.Rule.TheVariants.{Tables}
 use Rattle.ec_table.specs.declared.keys.Shape.{Shape}
 use Rattle.ec_table.specs.declared.keys.Shape.TheVariants as shape
+use Rattle.ec_table.specs.declared.rows.Format.{Format}
 use Rattle.ec_table.specs.declared.rows.Version.{Version}
 use Rattle.ec_table.specs.declared.rows.Version.TheVariants as versions
-use Rattle.ec_table.specs.Fields.{viewed, required, optional, is_key, each_key, has_required, keys_are}
+use Rattle.ec_table.specs.Fields.{viewed, full_format, required, optional, is_key, each_key, has_required, keys_are}
 use Rattle.ec_table.specs.Keys.{KeyRow, key_row, keys_of, names_of, rule_at}
 use Rattle.ec_table.specs.Values.{AreUnder}
 use Rattle.ec_table.proofs.NameIndex.{has_place}
@@ -75,7 +76,7 @@ all_among p (x ∷ xs) ys among all =
 same_all : (p : List ℕ → Bool) (xs ys : List (List ℕ)) → AreAmong xs ys → AreAmong ys xs → list_all p xs ≡ list_all p ys
 same_all p xs ys to back = same_bool _ _ (all_among p ys xs back) (all_among p xs ys to)
 
--- ---- the keys of a version
+-- ---- the keys of a format
 
 -- the names of the keys that a table must have
 abbrev needed : List KeyRow → List (List ℕ)
@@ -84,23 +85,32 @@ needed ((name, rule, true) ∷ keys) = name ∷ needed keys
 needed ((name, rule, false) ∷ keys) = needed keys
 
 -- the table of keys has those that the definitions of a section name, and no others
-abbrev IsOfKeys : Shape → Version → Type 0
-IsOfKeys s v = AreAmong (names_of s v) (required s ++ optional s v) × AreAmong (required s ++ optional s v) (names_of s v) × AreAmong (needed (keys_of s v)) (required s) × AreAmong (required s) (needed (keys_of s v))
+abbrev IsOfKeys : Shape → Format → Type 0
+IsOfKeys s v = AreAmong (names_of s v) (required s v ++ optional s v) × AreAmong (required s v ++ optional s v) (names_of s v) × AreAmong (needed (keys_of s v)) (required s v) × AreAmong (required s v) (needed (keys_of s v))
 
-of_keys : (s : Shape) (v : Version) → IsOfKeys s v
-of_keys shape.Document v = (refl, refl, refl, refl)
-of_keys shape.Type v = (refl, refl, refl, refl)
-of_keys shape.Pdo v = (refl, refl, refl, refl)
-of_keys shape.Slave versions.One = (refl, refl, refl, refl)
-of_keys shape.Slave versions.Two = (refl, refl, refl, refl)
-of_keys shape.Variable v = (refl, refl, refl, refl)
-of_keys shape.Link v = (refl, refl, refl, refl)
+-- the format of a version, for hardware or not
+abbrev format : Version → Bool → Format
+format v hardware = record { version = v; hardware = hardware }
+
+keys_in : (s : Shape) (v : Version) (hardware : Bool) → IsOfKeys s (format v hardware)
+keys_in shape.Document v h = (refl, refl, refl, refl)
+keys_in shape.Type v false = (refl, refl, refl, refl)
+keys_in shape.Type v true = (refl, refl, refl, refl)
+keys_in shape.Pdo v h = (refl, refl, refl, refl)
+keys_in shape.Slave versions.One h = (refl, refl, refl, refl)
+keys_in shape.Slave versions.Two h = (refl, refl, refl, refl)
+keys_in shape.Variable v false = (refl, refl, refl, refl)
+keys_in shape.Variable v true = (refl, refl, refl, refl)
+keys_in shape.Link v h = (refl, refl, refl, refl)
+
+of_keys : (s : Shape) (f : Format) → IsOfKeys s f
+of_keys s f = keys_in s f.version f.hardware
 
 -- a key is known where it has a place
-pub has_key : (s : Shape) (v : Version) (key : List ℕ) → is_some (position (bytes_eq key) (names_of s v)) ≡ is_key s v key
+pub has_key : (s : Shape) (v : Format) (key : List ℕ) → is_some (position (bytes_eq key) (names_of s v)) ≡ is_key s v key
 has_key s v key =
     let (to, back, _, _) = of_keys s v in
-    has_place (bytes_eq key) (names_of s v) ∙ (same_any key (names_of s v) (required s ++ optional s v) to back ∙ list_any-append (bytes_eq key) (required s) (optional s v))
+    has_place (bytes_eq key) (names_of s v) ∙ (same_any key (names_of s v) (required s v ++ optional s v) to back ∙ list_any-append (bytes_eq key) (required s v) (optional s v))
 
 first_mapped : {A B : Type 0} (p : B → Bool) (f : A → B) (xs : List A) → position_or_len p (map f xs) ≡ position_or_len (λ x. p (f x)) xs
 first_mapped p f [] = refl
@@ -114,7 +124,7 @@ abbrev pub CodeKey : Type 0
 CodeKey = Bor (List ℕ) × Rule × Bool
 
 -- the keys that the code has are those that are known
-pub place_known : (s : Shape) (v : Version) (keys : List CodeKey) (name : List ℕ) → map key_row keys ≡ keys_of s v → position (λ (k : CodeKey). bytes_eq name k.0.now) keys ≡ position (bytes_eq name) (names_of s v)
+pub place_known : (s : Shape) (v : Format) (keys : List CodeKey) (name : List ℕ) → map key_row keys ≡ keys_of s v → position (λ (k : CodeKey). bytes_eq name k.0.now) keys ≡ position (bytes_eq name) (names_of s v)
 place_known s v keys name all =
     sym (place_mapped (λ (k : KeyRow). bytes_eq name k.0) key_row keys) ∙ (sym (place_mapped (bytes_eq name) (λ (k : KeyRow). k.0) (map key_row keys)) ∙ ap (λ (ks : List KeyRow). position (bytes_eq name) (map (λ k. k.0) ks)) all)
 
@@ -123,7 +133,7 @@ rules_mapped [] = refl
 rules_mapped (k ∷ keys) = ap (λ rules. k.1 ∷ rules) (rules_mapped keys)
 
 -- what the key at a place takes
-pub rule_found : (s : Shape) (keys : List CodeKey) (place : ℕ) (d : CodeKey) → map key_row keys ≡ keys_of s versions.Two → place < length keys → (get_or keys place d).1 ≡ rule_at s place
+pub rule_found : (s : Shape) (keys : List CodeKey) (place : ℕ) (d : CodeKey) → map key_row keys ≡ keys_of s full_format → place < length keys → (get_or keys place d).1 ≡ rule_at s place
 rule_found s keys place d all lt =
     sym (get_or-map (λ (k : CodeKey). k.1) keys place d Tables lt) ∙ ap (λ (rules : List Rule). get_or rules place Tables) (rules_mapped keys ∙ ap (λ (ks : List KeyRow). map (λ k. k.1) ks) all)
 
@@ -193,26 +203,40 @@ not_there test name unknown (member key d ms) each =
     let two : (test key ≡ true) × (each_key test ms ≡ true) = both (test key) (each_key test ms) each in
     other test name unknown key d (get_member name ms) two.0 (not_there test name unknown ms two.1) (slice_cmp nat_cmp name key) (bytes_eq name key) (is_eq-slice_cmp name key) refl
 
-under_known : (s : Shape) (v : Version) (found : List (Option (Bor Value))) (ms : Members) → Found found (names_of s v) ms → AreUnder found 0 (names_of s v) ms
-under_known shape.Document v found ms h = (h (codes "version") 0 refl, (h (codes "type") 1 refl, (h (codes "slave") 2 refl, (h (codes "variable") 3 refl, (h (codes "link") 4 refl, tt)))))
-under_known shape.Type v found ms h = (h (codes "name") 0 refl, (h (codes "vendor") 1 refl, (h (codes "product") 2 refl, (h (codes "revision") 3 refl, (h (codes "mailbox") 4 refl, (h (codes "out_start") 5 refl, (h (codes "in_start") 6 refl, (h (codes "rxpdo") 7 refl, (h (codes "txpdo") 8 refl, (h (codes "lrw") 9 refl, tt))))))))))
-under_known shape.Pdo v found ms h = (h (codes "index") 0 refl, (h (codes "entries") 1 refl, tt))
-under_known shape.Slave versions.One found ms h = (h (codes "name") 0 refl, (h (codes "type") 1 refl, (h (codes "out") 2 refl, (h (codes "in") 3 refl, (h (codes "serial") 4 refl, tt)))))
-under_known shape.Slave versions.Two found ms h = (h (codes "name") 0 refl, (h (codes "type") 1 refl, (h (codes "out") 2 refl, (h (codes "in") 3 refl, (h (codes "serial") 4 refl, (h (codes "unit") 5 refl, tt))))))
-under_known shape.Variable v found ms h = (h (codes "name") 0 refl, (h (codes "dir") 1 refl, (h (codes "bits") 2 refl, tt)))
-under_known shape.Link v found ms h = (h (codes "var") 0 refl, (h (codes "slave") 1 refl, (h (codes "index") 2 refl, (h (codes "sub") 3 refl, (h (codes "bits") 4 refl, tt)))))
+under_in : (s : Shape) (v : Version) (hardware : Bool) (found : List (Option (Bor Value))) (ms : Members) → Found found (names_of s (format v hardware)) ms → AreUnder found 0 (names_of s (format v hardware)) ms
+under_in shape.Document v b found ms h = (h (codes "version") 0 refl, (h (codes "hardware") 1 refl, (h (codes "type") 2 refl, (h (codes "slave") 3 refl, (h (codes "variable") 4 refl, (h (codes "link") 5 refl, tt))))))
+under_in shape.Type v false found ms h = (h (codes "name") 0 refl, (h (codes "vendor") 1 refl, (h (codes "product") 2 refl, (h (codes "revision") 3 refl, (h (codes "mailbox") 4 refl, (h (codes "out_start") 5 refl, (h (codes "in_start") 6 refl, (h (codes "rxpdo") 7 refl, (h (codes "txpdo") 8 refl, (h (codes "lrw") 9 refl, tt))))))))))
+under_in shape.Type v true found ms h = (h (codes "name") 0 refl, (h (codes "vendor") 1 refl, (h (codes "product") 2 refl, (h (codes "revision") 3 refl, (h (codes "mailbox") 4 refl, (h (codes "out_start") 5 refl, (h (codes "in_start") 6 refl, (h (codes "rxpdo") 7 refl, (h (codes "txpdo") 8 refl, (h (codes "lrw") 9 refl, (h (codes "out_manager") 10 refl, (h (codes "in_manager") 11 refl, (h (codes "firmware") 12 refl, (h (codes "fmmus") 13 refl, tt))))))))))))))
+under_in shape.Pdo v b found ms h = (h (codes "index") 0 refl, (h (codes "entries") 1 refl, tt))
+under_in shape.Slave versions.One b found ms h = (h (codes "name") 0 refl, (h (codes "type") 1 refl, (h (codes "out") 2 refl, (h (codes "in") 3 refl, (h (codes "serial") 4 refl, tt)))))
+under_in shape.Slave versions.Two b found ms h = (h (codes "name") 0 refl, (h (codes "type") 1 refl, (h (codes "out") 2 refl, (h (codes "in") 3 refl, (h (codes "serial") 4 refl, (h (codes "unit") 5 refl, tt))))))
+under_in shape.Variable v false found ms h = (h (codes "name") 0 refl, (h (codes "dir") 1 refl, (h (codes "bits") 2 refl, tt)))
+under_in shape.Variable v true found ms h = (h (codes "name") 0 refl, (h (codes "dir") 1 refl, (h (codes "bits") 2 refl, (h (codes "signed") 3 refl, tt))))
+under_in shape.Link v b found ms h = (h (codes "var") 0 refl, (h (codes "slave") 1 refl, (h (codes "index") 2 refl, (h (codes "sub") 3 refl, (h (codes "bits") 4 refl, tt)))))
 
--- a key that is not known in the version has no value, as nothing was found of it
-pub under_all : (s : Shape) (v : Version) (found : List (Option (Bor Value))) (ms : Members) → Found found (names_of s v) ms → ((i : ℕ) → length (names_of s v) ≤ i → get_or found i None ≡ None) → each_key (is_key s v) ms ≡ true → AreUnder found 0 (names_of s versions.Two) ms
-under_all shape.Document v found ms h none each = under_known shape.Document v found ms h
-under_all shape.Type v found ms h none each = under_known shape.Type v found ms h
-under_all shape.Pdo v found ms h none each = under_known shape.Pdo v found ms h
-under_all shape.Slave versions.One found ms h none each =
-    let u = under_known shape.Slave versions.One found ms h in
-    (u.0, (u.1.0, (u.1.1.0, (u.1.1.1.0, (u.1.1.1.1.0, (ap viewed (none 5 (omega arith)) ∙ sym (not_there (is_key shape.Slave versions.One) (codes "unit") refl ms each), tt))))))
-under_all shape.Slave versions.Two found ms h none each = under_known shape.Slave versions.Two found ms h
-under_all shape.Variable v found ms h none each = under_known shape.Variable v found ms h
-under_all shape.Link v found ms h none each = under_known shape.Link v found ms h
+under_known : (s : Shape) (f : Format) (found : List (Option (Bor Value))) (ms : Members) → Found found (names_of s f) ms → AreUnder found 0 (names_of s f) ms
+under_known s f found ms h = under_in s f.version f.hardware found ms h
+
+-- nothing stands under a key that the format doesn't have
+not_under : (s : Shape) (f : Format) (found : List (Option (Bor Value))) (ms : Members) → ((i : ℕ) → length (names_of s f) ≤ i → get_or found i None ≡ None) → each_key (is_key s f) ms ≡ true
+    → (name : List ℕ) (i : ℕ) → is_key s f name ≡ false → length (names_of s f) ≤ i → viewed (get_or found i None) ≡ get_member name ms
+not_under s f found ms none each name i unknown past = ap viewed (none i past) ∙ sym (not_there (is_key s f) name unknown ms each)
+
+-- a key that the format doesn't have has no value, as nothing was found of it
+all_in : (s : Shape) (v : Version) (hardware : Bool) (found : List (Option (Bor Value))) (ms : Members) → Found found (names_of s (format v hardware)) ms
+    → ((name : List ℕ) (i : ℕ) → is_key s (format v hardware) name ≡ false → length (names_of s (format v hardware)) ≤ i → viewed (get_or found i None) ≡ get_member name ms) → AreUnder found 0 (names_of s full_format) ms
+all_in shape.Document v b found ms h n = (h (codes "version") 0 refl, (h (codes "hardware") 1 refl, (h (codes "type") 2 refl, (h (codes "slave") 3 refl, (h (codes "variable") 4 refl, (h (codes "link") 5 refl, tt))))))
+all_in shape.Type v false found ms h n = (h (codes "name") 0 refl, (h (codes "vendor") 1 refl, (h (codes "product") 2 refl, (h (codes "revision") 3 refl, (h (codes "mailbox") 4 refl, (h (codes "out_start") 5 refl, (h (codes "in_start") 6 refl, (h (codes "rxpdo") 7 refl, (h (codes "txpdo") 8 refl, (h (codes "lrw") 9 refl, (n (codes "out_manager") 10 refl (omega arith), (n (codes "in_manager") 11 refl (omega arith), (n (codes "firmware") 12 refl (omega arith), (n (codes "fmmus") 13 refl (omega arith), tt))))))))))))))
+all_in shape.Type v true found ms h n = (h (codes "name") 0 refl, (h (codes "vendor") 1 refl, (h (codes "product") 2 refl, (h (codes "revision") 3 refl, (h (codes "mailbox") 4 refl, (h (codes "out_start") 5 refl, (h (codes "in_start") 6 refl, (h (codes "rxpdo") 7 refl, (h (codes "txpdo") 8 refl, (h (codes "lrw") 9 refl, (h (codes "out_manager") 10 refl, (h (codes "in_manager") 11 refl, (h (codes "firmware") 12 refl, (h (codes "fmmus") 13 refl, tt))))))))))))))
+all_in shape.Pdo v b found ms h n = (h (codes "index") 0 refl, (h (codes "entries") 1 refl, tt))
+all_in shape.Slave versions.One b found ms h n = (h (codes "name") 0 refl, (h (codes "type") 1 refl, (h (codes "out") 2 refl, (h (codes "in") 3 refl, (h (codes "serial") 4 refl, (n (codes "unit") 5 refl (omega arith), tt))))))
+all_in shape.Slave versions.Two b found ms h n = (h (codes "name") 0 refl, (h (codes "type") 1 refl, (h (codes "out") 2 refl, (h (codes "in") 3 refl, (h (codes "serial") 4 refl, (h (codes "unit") 5 refl, tt))))))
+all_in shape.Variable v false found ms h n = (h (codes "name") 0 refl, (h (codes "dir") 1 refl, (h (codes "bits") 2 refl, (n (codes "signed") 3 refl (omega arith), tt))))
+all_in shape.Variable v true found ms h n = (h (codes "name") 0 refl, (h (codes "dir") 1 refl, (h (codes "bits") 2 refl, (h (codes "signed") 3 refl, tt))))
+all_in shape.Link v b found ms h n = (h (codes "var") 0 refl, (h (codes "slave") 1 refl, (h (codes "index") 2 refl, (h (codes "sub") 3 refl, (h (codes "bits") 4 refl, tt)))))
+
+pub under_all : (s : Shape) (f : Format) (found : List (Option (Bor Value))) (ms : Members) → Found found (names_of s f) ms → ((i : ℕ) → length (names_of s f) ≤ i → get_or found i None ≡ None) → each_key (is_key s f) ms ≡ true → AreUnder found 0 (names_of s full_format) ms
+under_all s f found ms h none each = all_in s f.version f.hardware found ms h (not_under s f found ms none each)
 
 -- ---- the keys that a table must have
 
@@ -236,29 +260,34 @@ needed_all [] ms = refl
 needed_all ((name, rule, true) ∷ keys) ms = ap (λ b. is_some (get_member name ms) && b) (needed_all keys ms)
 needed_all ((name, rule, false) ∷ keys) ms = needed_all keys ms
 
-few_keys : (s : Shape) (v : Version) → length (names_of s v) ≤ 10
-few_keys shape.Document v = omega arith
-few_keys shape.Type v = omega arith
-few_keys shape.Pdo v = omega arith
-few_keys shape.Slave versions.One = omega arith
-few_keys shape.Slave versions.Two = omega arith
-few_keys shape.Variable v = omega arith
-few_keys shape.Link v = omega arith
+few_in : (s : Shape) (v : Version) (hardware : Bool) → length (names_of s (format v hardware)) ≤ 14
+few_in shape.Document v b = omega arith
+few_in shape.Type v false = omega arith
+few_in shape.Type v true = omega arith
+few_in shape.Pdo v b = omega arith
+few_in shape.Slave versions.One b = omega arith
+few_in shape.Slave versions.Two b = omega arith
+few_in shape.Variable v false = omega arith
+few_in shape.Variable v true = omega arith
+few_in shape.Link v b = omega arith
 
-pub has_all : (s : Shape) (v : Version) (keys : List CodeKey) (found : List (Option (Bor Value))) (ms : Members) → map key_row keys ≡ keys_of s v → length found ≡ 10 → Found found (names_of s v) ms
-    → list_all (λ (p : CodeKey × Option (Bor Value)). not p.0.2 || is_some p.1) (zip keys found) ≡ has_required s ms
+few_keys : (s : Shape) (f : Format) → length (names_of s f) ≤ 14
+few_keys s f = few_in s f.version f.hardware
+
+pub has_all : (s : Shape) (v : Format) (keys : List CodeKey) (found : List (Option (Bor Value))) (ms : Members) → map key_row keys ≡ keys_of s v → length found ≡ 14 → Found found (names_of s v) ms
+    → list_all (λ (p : CodeKey × Option (Bor Value)). not p.0.2 || is_some p.1) (zip keys found) ≡ has_required s v ms
 has_all s v keys found ms all long h =
-    let few : length keys ≤ 10 = omega (arith, few_keys s v, length-map keys key_row, ap length all, length-map (keys_of s v) (λ k. k.0)) in
+    let few : length keys ≤ 14 = omega (arith, few_keys s v, length-map keys key_row, ap length all, length-map (keys_of s v) (λ k. k.0)) in
     let (_, _, to, back) = of_keys s v in
     let under : AreUnder found 0 (map (λ (k : KeyRow). k.0) (map key_row keys)) ms = subst (λ (ks : List KeyRow). AreUnder found 0 (map (λ k. k.0) ks) ms) (sym all) (under_known s v found ms h) in
-    needed_from found 0 keys ms (omega arith) under ∙ (ap (λ ks. HasNeeded ks ms) all ∙ (needed_all (keys_of s v) ms ∙ same_all (λ key. is_some (get_member key ms)) (needed (keys_of s v)) (required s) to back))
+    needed_from found 0 keys ms (omega arith) under ∙ (ap (λ ks. HasNeeded ks ms) all ∙ (needed_all (keys_of s v) ms ∙ same_all (λ key. is_some (get_member key ms)) (needed (keys_of s v)) (required s v) to back))
 
 -- after the last member: whether the keys are as they must be, and what stands under each
-module _ (s : Shape) (v : Version) (found : List (Option (Bor Value))) (ms : Members) (each : each_key (is_key s v) no_members ≡ each_key (is_key s v) ms) (long : length found ≡ 10) (finds : Finds found (names_of s v) no_members ms) where
+module _ (s : Shape) (v : Format) (found : List (Option (Bor Value))) (ms : Members) (each : each_key (is_key s v) no_members ≡ each_key (is_key s v) ms) (long : length found ≡ 14) (finds : Finds found (names_of s v) no_members ms) where
   pub keys_at_end : (keys : List CodeKey) → map key_row keys ≡ keys_of s v → list_all (λ (p : CodeKey × Option (Bor Value)). not p.0.2 || is_some p.1) (zip keys found) ≡ keys_are s v ms
-  keys_at_end keys all = has_all s v keys found ms all long (found_all found (names_of s v) ms finds) ∙ ap (λ b. b && has_required s ms) each
+  keys_at_end keys all = has_all s v keys found ms all long (found_all found (names_of s v) ms finds) ∙ ap (λ b. b && has_required s v ms) each
 
-  pub values_at_end : ((i : ℕ) → length (names_of s v) ≤ i → get_or found i None ≡ None) → AreUnder found 0 (names_of s versions.Two) ms
+  pub values_at_end : ((i : ℕ) → length (names_of s v) ≤ i → get_or found i None ≡ None) → AreUnder found 0 (names_of s full_format) ms
   values_at_end none = under_all s v found ms (found_all found (names_of s v) ms finds) none (sym each)
 
 -- ---- places
@@ -267,8 +296,8 @@ before_end : {X : Type 0} (p : X → Bool) (xs : List X) (i : ℕ) (b : Bool) �
 before_end p xs i true lt is = let e : position_or_len p xs ≡ i = cc in grind (arith, nat_tests)
 before_end p xs i false lt is = absurd (cc)
 
--- a place of a key is below their number, and one of ten
-pub place_inside : (s : Shape) (v : Version) (key : List ℕ) (i : ℕ) → position (bytes_eq key) (names_of s v) ≡ Some i → (i < length (names_of s v)) × (i < 10)
+-- a place of a key is below their number, and one of fourteen
+pub place_inside : (s : Shape) (v : Format) (key : List ℕ) (i : ℕ) → position (bytes_eq key) (names_of s v) ≡ Some i → (i < length (names_of s v)) × (i < 14)
 place_inside s v key i is =
     let inside : i < length (names_of s v) = before_end (bytes_eq key) (names_of s v) i (nat_lt (position_or_len (bytes_eq key) (names_of s v)) (length (names_of s v))) refl is in
     (inside, omega (arith, few_keys s v))

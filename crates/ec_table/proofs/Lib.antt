@@ -12,6 +12,8 @@ pub mod NameIndex
 pub mod KeysTaken
 -- one row of a section, and the end
 pub mod SectionRows
+-- a type whose values were found under its keys
+pub mod TypeFound
 -- what a value that was read meets, along a chain of tests
 pub mod ValueTests
 -- the parts of a type as the reader finds them, each with its ranges, beside the limits of a slave's type

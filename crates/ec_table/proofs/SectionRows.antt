@@ -75,7 +75,7 @@ unfolding rows_after
 next_fails row found vs left v whole Memory is same f = tt
 next_fails row found vs left v whole (Refused fault) is same f = sym same ∙ rw (is, f)
 
-told : {X : Type 0} (result : Result X TableError) (f : Fault) (whole : Result X Fault) → IsErr result × IsErrAnd result (λ e. e ≡ Refused f) → whole ≡ Err f → Gives result whole
+pub told : {X : Type 0} (result : Result X TableError) (f : Fault) (whole : Result X Fault) → IsErr result × IsErrAnd result (λ e. e ≡ Refused f) → whole ≡ Err f → Gives result whole
 told (Ok x) f whole h is = absurd h.1
 told (Err e) f whole h is = rw h.1 is
 

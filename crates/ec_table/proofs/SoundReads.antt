@@ -1,19 +1,30 @@
 -- What was read is sound.
-use Rattle.std.proofs.Common.{◌≡◌, ◌≢◌, ℕ, ◌<◌, ◌≤◌, Bool, true, false, not, ◌&&◌, ◌||◌, ◌==◌, List, [], ◌∷◌, ◌++◌, length, get_or, Result, Option, Some, None, is_some, All, nat_le, subst, arith, refl, sym, codes}
+use Rattle.std.proofs.Common.{◌≡◌, ◌≢◌, ℕ, ◌<◌, ◌≤◌, Bool, true, false, not, ◌&&◌, ◌||◌, ◌==◌, List, [], ◌∷◌, ◌++◌, length, get_or, Result, Option, Some, None, is_some, All, nat_le, is_none, ◌%◌, subst, arith, refl, sym, ◌∙◌, codes}
 use Rattle.std.specs.List.{list_any}
+use Rattle.std.specs.Option.{ForSome}
 use Rattle.std.specs.Str.{bytes_eq}
+use Rattle.std.specs.Ordering.{is_eq, match_ordering, nat_cmp}
+use Rattle.std.specs.Cmp.Lexicographic.{slice_cmp}
+use Rattle.std.specs.declared.cmp.Ordering.{Ordering}
+use Rattle.std.specs.declared.cmp.Ordering.TheVariants.{Less, Equal, Greater}
+use Rattle.std.proofs.lemmas.Map.Text.{is_eq-slice_cmp}
 use Rattle.std.proofs.lemmas.Bool.Decides.{nat_tests, Decides-eqb}
 use Rattle.std.proofs.lemmas.Slice.Eq.{bytes_eq-Decides}
 use Rattle.std.proofs.lemmas.List.Elements.{All-push, All-nil, All-cons}
-use Rattle.std.proofs.lemmas.Bool.{or_parts}
+use Rattle.std.proofs.lemmas.Bool.{or_parts, and_parts}
 use Rattle.std.proofs.lemmas.List.Folds.{list_any_at}
 use Rattle.std.proofs.lemmas.List.Quantifiers.{all_pairs_push}
 use Rattle.std.proofs.lemmas.List.Kept.{AllPairs-cons}
-use Rattle.toml.specs.Data.{Data, Members, Items, get_member, at}
+use Rattle.toml.specs.Data.{Data, Members, no_members, member, Items, get_member, at}
 use Rattle.ec_device.specs.declared.slave_type.Mailbox.{Mailbox}
+use Rattle.ec_device.specs.declared.slave_type.Device.{Device}
+use Rattle.ec_device.specs.declared.hardware.ProcessManager.{ProcessManager}
+use Rattle.ec_device.specs.declared.hardware.Hardware.{Hardware}
+use Rattle.ec_device.specs.Hardware.{IsBesideMailbox, IsHardware, usual_outputs, usual_inputs, are_pins}
 use Rattle.ec_table.specs.declared.fault.Fault.{Fault}
 use Rattle.ec_table.specs.declared.fault.Fault.TheVariants.{BadKey, BadValue, TwiceNamed}
 use Rattle.ec_table.specs.declared.fault.Position.{Position}
+use Rattle.ec_table.specs.declared.rows.Format.{Format}
 use Rattle.ec_table.specs.declared.rows.Version.{Version}
 use Rattle.ec_table.specs.declared.rows.Direction.{Direction}
 use Rattle.ec_table.specs.declared.rows.Direction.TheVariants.{Out, In}
@@ -22,14 +33,33 @@ use Rattle.ec_table.specs.declared.rows.TypeRow.{TypeRow}
 use Rattle.ec_table.specs.declared.rows.VariableRow.{VariableRow}
 use Rattle.ec_table.specs.declared.keys.Shape.TheVariants as shape
 use Rattle.ec_table.specs.Contents.{pdos_toward}
-use Rattle.ec_table.specs.Fields.{◌>>=◌, must, keys_are, mailbox_of, mailbox_in, direction_in, truth_in}
+use Rattle.ec_table.specs.Fields.{◌>>=◌, must, each_key, is_key, has_required, keys_are, mailbox_of, mailbox_in, direction_in, truth_in, number_or_0, manager_of, manager_in, fmmus_in}
 use Rattle.ec_table.specs.InOrder.{members_in, rows_after}
 use Rattle.ec_table.specs.Pdos.{entry_of, entry_row, array_of, array_in, pdo_of, pdo_row, pdos_in, indices_of, has_twice}
-use Rattle.ec_table.specs.Reading.{device_in, process_in, process_twice, type_at, type_named, type_element, variable_at, variable_element}
+use Rattle.ec_table.specs.Reading.{device_in, process_in, process_twice, described, described_if, can_be, is_possible, type_at, type_named, type_element, variable_at, variable_element}
 use Rattle.ec_table.specs.Names.{is_named}
-use Rattle.ec_table.specs.Sound.{IsOnce, IsDevice, IsType, AreTypes, IsVariable, AreVariables, first_index}
+use Rattle.ec_table.specs.Sound.{IsOnce, IsDevice, IsDescribed, IsType, AreTypes, IsVariable, AreVariables, first_index}
 use Rattle.ec_table.proofs.Ranges.{ReadMailbox, ReadEntry, ReadPdo, ReadPdos, last_index, type_read}
 use Rattle.ec_table.proofs.ValueTests.{Meets, meets_ok, meets_then, any_met, must_met, number_met, name_met, rows_met}
+
+-- ---- keys
+
+pub false_from : (b : Bool) → (b ≡ true → ⊥) → b ≡ false
+false_from true h = absurd (h refl)
+false_from false h = refl
+
+skipped : (o : Ordering) (k l : List ℕ) (d : Data) (rest : Option Data) → is_eq o ≡ bytes_eq k l → bytes_eq k l ≡ false → rest ≡ None → match_ordering o rest (Some d) rest ≡ None
+skipped Less k l d rest same differ none = none
+skipped Equal k l d rest same differ none = cc
+skipped Greater k l d rest same differ none = none
+
+-- where each key passes, one that doesn't is none
+pub no_such_key : (test : List ℕ → Bool) (k : List ℕ) (ms : Members) → test k ≡ false → each_key test ms ≡ true → get_member k ms ≡ None
+no_such_key test k no_members fails each = refl
+no_such_key test k (member l d ms) fails each =
+    let parts : (test l ≡ true) × (each_key test ms ≡ true) = and_parts (test l) (each_key test ms) each in
+    let differ : bytes_eq k l ≡ false = false_from (bytes_eq k l) (λ e. let same : k ≡ l = (bytes_eq-Decides k l).0 e in cc) in
+    skipped (slice_cmp nat_cmp k l) k l d (get_member k ms) (is_eq-slice_cmp k l) differ (no_such_key test k ms fails parts.1)
 
 -- ---- values
 
@@ -47,6 +77,11 @@ pub mailbox_met : (p : Position) (v : Option Data) → Meets (mailbox_in p v) (�
 unfolding mailbox_in
 mailbox_met p None = meets_ok (λ o. (m : Mailbox) → o ≡ Some m → ReadMailbox m) None (λ m is. cc)
 mailbox_met p (Some d) = meets_then ReadMailbox (λ o. (m : Mailbox) → o ≡ Some m → ReadMailbox m) _ _ (mailbox_of_met p d) (λ m hm. meets_ok (λ o. (k : Mailbox) → o ≡ Some k → ReadMailbox k) (Some m) (λ k is. let e : m ≡ k = cc in subst ReadMailbox e hm))
+
+-- a number that may be left out
+pub number_or_0_met : (p : Position) (most : ℕ) (v : Option Data) → Meets (number_or_0 p most v) (λ n. (n ≤ most) × (v ≡ None → n ≡ 0))
+number_or_0_met p most None = meets_ok (λ n. (n ≤ most) × (None ≡ None → n ≡ 0)) 0 (omega arith, λ e. refl)
+number_or_0_met p most (Some d) = record { all = λ n is. (((number_met p 0 most (Some d)).all n is).1, λ e. cc) }
 
 gap_kept : (a b : ℕ) (c : Bool) → (c && (not (a == 0) || (b == 0))) ≡ true → a ≡ 0 → b ≡ 0
 gap_kept a b c h e = grind (arith, nat_tests)
@@ -106,13 +141,14 @@ not_true false h = refl
 
 -- ---- types
 
-pub device_met : (p : Position) (vendor product revision : Option Data) → Meets (device_in p vendor product revision) IsDevice
+pub device_met : (p : Position) (vendor product revision : Option Data) → Meets (device_in p vendor product revision) (λ d. IsDevice d × (revision ≡ None → d.revision ≡ 0))
 unfolding device_in
 device_met p vendor product revision =
-    meets_then _ IsDevice _ _ (number_met p 0 4294967295 vendor) (λ a ha.
-    meets_then _ IsDevice _ _ (number_met p 0 4294967295 product) (λ b hb.
-    meets_then _ IsDevice _ _ (number_met p 0 4294967295 revision) (λ e he.
-    meets_ok IsDevice _ (record { vendor = ha.1; product = hb.1; revision = he.1 }))))
+    let P : Device → Type 0 = λ d. IsDevice d × (revision ≡ None → d.revision ≡ 0) in
+    meets_then _ P _ _ (number_met p 0 4294967295 vendor) (λ a ha.
+    meets_then _ P _ _ (number_met p 0 4294967295 product) (λ b hb.
+    meets_then _ P _ _ (number_or_0_met p 4294967295 revision) (λ e he.
+    meets_ok P (record { vendor = a; product = b; revision = e }) (record { vendor = ha.1; product = hb.1; revision = he.0 }, he.1))))
 
 -- the process data before the test on doubles
 pub record IsProcess (d : ProcessData) : Type 0 where
@@ -126,11 +162,11 @@ pub record IsProcess (d : ProcessData) : Type 0 where
 pub process_met : (p : Position) (out_start in_start rxpdo txpdo : Option Data) → Meets (process_in p out_start in_start rxpdo txpdo) IsProcess
 unfolding process_in
 process_met p out_start in_start rxpdo txpdo =
-    meets_then _ IsProcess _ _ (number_met p 0 65535 out_start) (λ a ha.
-    meets_then _ IsProcess _ _ (number_met p 0 65535 in_start) (λ b hb.
+    meets_then _ IsProcess _ _ (number_or_0_met p 65535 out_start) (λ a ha.
+    meets_then _ IsProcess _ _ (number_or_0_met p 65535 in_start) (λ b hb.
     meets_then _ IsProcess _ _ (pdos_met Out p rxpdo) (λ os hos.
     meets_then _ IsProcess _ _ (pdos_met In p txpdo) (λ is his.
-    meets_ok IsProcess _ (record { out_start = ha.1; in_start = hb.1; outputs = hos.0; output_count = hos.1; inputs = his.0; input_count = his.1 })))))
+    meets_ok IsProcess _ (record { out_start = ha.0; in_start = hb.0; outputs = hos.0; output_count = hos.1; inputs = his.0; input_count = his.1 })))))
 
 -- the name is none of those found
 pub fresh : {X : Type 0} (name_of : X → List ℕ) (name : List ℕ) (found : List X) → list_any (λ x. bytes_eq (name_of x) name) found ≡ false → (k : ℕ) (d : X) → k < length found → name_of (get_or found k d) ≢ name
@@ -142,32 +178,157 @@ pub pdos_of_process : (d : ProcessData) → IsProcess d → process_twice d ≡ 
 pdos_of_process d h once t is Out = let parts : (has_twice (indices_of d.outputs) ≡ false) × (has_twice (indices_of d.inputs) ≡ false) = or_parts _ _ once in rw is (record { each = h.outputs; few = h.output_count; once = once_from_test _ parts.0 })
 pdos_of_process d h once t is In = let parts : (has_twice (indices_of d.outputs) ≡ false) × (has_twice (indices_of d.inputs) ≡ false) = or_parts _ _ once in rw is (record { each = h.inputs; few = h.input_count; once = once_from_test _ parts.1 })
 
+-- ---- what a type says of real devices
+
+pub record ReadManager (m : ProcessManager) : Type 0 where
+  pub number : m.number ≤ 3
+  pub control : m.control ≤ 255
+
+pub manager_met : (p : Position) (usual : ProcessManager) (v : Option Data) → ReadManager usual → Meets (manager_in p usual v) (λ m. ReadManager m × (v ≡ None → m ≡ usual))
+unfolding manager_in manager_of
+manager_met p usual None h = meets_ok (λ m. ReadManager m × (None ≡ None → m ≡ usual)) usual (h, λ e. refl)
+manager_met p usual (Some d) h =
+    let P : ProcessManager → Type 0 = λ m. ReadManager m × (Some d ≡ None → m ≡ usual) in
+    meets_then _ P _ _ (number_met p 0 3 (at 0 d)) (λ a ha.
+    meets_then _ P _ _ (number_met p 0 255 (at 1 d)) (λ b hb.
+    meets_then _ P _ _ (any_met _) (λ u _.
+    meets_ok P (record { number = a; control = b }) (record { number = ha.1; control = hb.1 }, λ e. cc))))
+
+pub fmmus_met : (p : Position) (v : Option Data) → Meets (fmmus_in p v) (λ n. ((2 ≤ n) × (n ≤ 4)) × (v ≡ None → n ≡ 4))
+fmmus_met p None = meets_ok (λ n. ((2 ≤ n) × (n ≤ 4)) × (None ≡ None → n ≡ 4)) 4 ((omega arith, omega arith), λ e. refl)
+fmmus_met p (Some d) = record { all = λ n is. ((number_met p 2 4 (Some d)).all n is, λ e. cc) }
+
+pub truth_met : (p : Position) (left_out : Bool) (v : Option Data) → Meets (truth_in p left_out v) (λ b. v ≡ None → b ≡ left_out)
+truth_met p left_out None = meets_ok (λ b. None ≡ None → b ≡ left_out) left_out (λ e. refl)
+truth_met p left_out (Some d) = record { all = λ b is e. cc }
+
+-- before the last test of a type
+pub record ReadHardware (process : ProcessData) (out_manager in_manager firmware fmmus revision : Option Data) (h : Hardware) : Type 0 where
+  pub outputs : ReadManager h.out_manager
+  pub inputs : ReadManager h.in_manager
+  pub some_fmmus : 2 ≤ h.fmmus
+  pub few_fmmus : h.fmmus ≤ 4
+  pub pins : h.has_pins ≡ are_pins process.out_start
+  pub any : h.any_revision ≡ is_none revision
+  pub out_usual : out_manager ≡ None → h.out_manager ≡ usual_outputs
+  pub in_usual : in_manager ≡ None → h.in_manager ≡ usual_inputs
+  pub firmware_usual : firmware ≡ None → h.has_firmware ≡ true
+  pub fmmus_usual : fmmus ≡ None → h.fmmus ≡ 4
+
+pub described_met : (p : Position) (process : ProcessData) (out_manager in_manager firmware fmmus revision : Option Data) → Meets (described p process out_manager in_manager firmware fmmus revision) (ReadHardware process out_manager in_manager firmware fmmus revision)
+unfolding described
+described_met p process out_manager in_manager firmware fmmus revision =
+    let P : Hardware → Type 0 = ReadHardware process out_manager in_manager firmware fmmus revision in
+    meets_then _ P _ _ (manager_met p usual_outputs out_manager (record { number = omega arith; control = omega arith })) (λ a ha.
+    meets_then _ P _ _ (manager_met p usual_inputs in_manager (record { number = omega arith; control = omega arith })) (λ b hb.
+    meets_then _ P _ _ (truth_met p true firmware) (λ w hw.
+    meets_then _ P _ _ (fmmus_met p fmmus) (λ n hn.
+    meets_ok P _ (record {
+      outputs = ha.0;
+      inputs = hb.0;
+      some_fmmus = hn.0.0;
+      few_fmmus = hn.0.1;
+      pins = refl;
+      any = refl;
+      out_usual = ha.1;
+      in_usual = hb.1;
+      firmware_usual = hw;
+      fmmus_usual = hn.1;
+    })))))
+
+-- there is a part if the table is for hardware, and it is as it was read
+pub record ReadPart (hardware : Bool) (P : Hardware → Type 0) (o : Option Hardware) : Type 0 where
+  pub there : is_some o ≡ hardware
+  pub each : (h : Hardware) → o ≡ Some h → P h
+
+pub described_if_met : (hardware : Bool) (P : Hardware → Type 0) (read : Result Hardware Fault) → Meets read P → Meets (described_if hardware read) (ReadPart hardware P)
+described_if_met false P read h = meets_ok (ReadPart false P) None (record { there = refl; each = λ x is. cc })
+described_if_met true P read h =
+    meets_then P (ReadPart true P) read _ h (λ x px. meets_ok (ReadPart true P) (Some x) (record { there = refl; each = λ y is. let e : x ≡ y = cc in subst P e px }))
+
+-- the last test of a type
+two_of : (n : ℕ) → nat_le 2 n ≡ true → 2 ≤ n
+two_of n h = grind (arith, nat_tests)
+
+beside : (mailbox : Option Mailbox) (h : Hardware) → (is_none mailbox || (nat_le 2 h.out_manager.number && (nat_le 2 h.in_manager.number && h.has_firmware))) ≡ true → ForSome mailbox (λ b. IsBesideMailbox h)
+beside None h test = λ b is. cc
+beside (Some m) h test = λ b is.
+    let outs = and_parts (nat_le 2 h.out_manager.number) (nat_le 2 h.in_manager.number && h.has_firmware) test in
+    let ins = and_parts (nat_le 2 h.in_manager.number) h.has_firmware outs.1 in
+    record { outputs = two_of _ outs.0; inputs = two_of _ ins.0; firmware = ins.1 }
+
+is_hardware : (mailbox : Option Mailbox) (h : Hardware) → ReadManager h.out_manager → ReadManager h.in_manager → 2 ≤ h.fmmus → h.fmmus ≤ 4 → can_be mailbox h ≡ true → IsHardware mailbox h
+is_hardware mailbox h outputs inputs some few test =
+    let modes : Bool = (h.out_manager.control % 16 == 4) && (h.in_manager.control % 16 == 0) in
+    let whole = and_parts (not (h.out_manager.number == h.in_manager.number) && modes) _ test in
+    let tests = and_parts (not (h.out_manager.number == h.in_manager.number)) modes whole.0 in
+    let both = and_parts (h.out_manager.control % 16 == 4) (h.in_manager.control % 16 == 0) tests.1 in
+    let differ : (h.out_manager.number == h.in_manager.number) ≡ false = not_true _ tests.0 in
+    record {
+      out_number = outputs.number;
+      in_number = inputs.number;
+      apart = λ e. let same : (h.out_manager.number == h.in_manager.number) ≡ true = (Decides-eqb _ _).1 e in cc;
+      out_mode = (Decides-eqb _ _).0 both.0;
+      in_mode = (Decides-eqb _ _).0 both.1;
+      out_byte = outputs.control;
+      in_byte = inputs.control;
+      mailbox = beside mailbox h whole.1;
+      some_fmmus = some;
+      few_fmmus = few;
+    }
+
+some_test : (mailbox : Option Mailbox) (o : Option Hardware) (h : Hardware) → is_possible mailbox o ≡ true → o ≡ Some h → can_be mailbox h ≡ true
+some_test mailbox None h test is = cc
+some_test mailbox (Some x) h test is = let e : x ≡ h = cc in rw e at test
+
+revision_none : (revision : Option Data) → is_none revision ≡ true → revision ≡ None
+revision_none None h = refl
+revision_none (Some d) h = cc
+
 -- a type that was read, after those found
 pub record NewType (found : List TypeRow) (t : TypeRow) : Type 0 where
   pub sound : IsType t
   pub fresh : (k : ℕ) (d : TypeRow) → k < length found → (get_or found k d).name ≢ t.name
 
-pub type_met : (v : Version) (p : Position) (ms : Members) (found : List TypeRow) → Meets (type_at v p ms found) (NewType found)
+pub type_met : (v : Format) (p : Position) (ms : Members) (found : List TypeRow) → Meets (type_at v p ms found) (λ t. NewType found t × (is_some t.hardware ≡ v.hardware))
 unfolding type_at type_named
 type_met v p ms found =
-    meets_then _ (NewType found) _ _ (any_met (must (keys_are shape.Type v ms) (BadKey p))) (λ u _.
-    meets_then _ (NewType found) _ _ (name_met p (get_member (codes "name") ms)) (λ name hname.
-    meets_then _ (NewType found) _ _ (device_met p _ _ _) (λ device hdevice.
-    meets_then _ (NewType found) _ _ (mailbox_met p (get_member (codes "mailbox") ms)) (λ mailbox hmailbox.
-    meets_then _ (NewType found) _ _ (process_met p _ _ _ _) (λ process hprocess.
-    meets_then _ (NewType found) _ _ (any_met (truth_in p (get_member (codes "lrw") ms))) (λ lrw _.
-    meets_then _ (NewType found) _ _ (must_met (not (is_named (λ (t : TypeRow). t.name) name found || process_twice process)) (TwiceNamed p)) (λ w hw.
+    let P : TypeRow → Type 0 = λ t. NewType found t × (is_some t.hardware ≡ v.hardware) in
+    meets_then _ P _ _ (any_met (must (keys_are shape.Type v ms) (BadKey p))) (λ u _.
+    meets_then _ P _ _ (name_met p (get_member (codes "name") ms)) (λ name hname.
+    meets_then _ P _ _ (device_met p _ _ _) (λ device hdevice.
+    meets_then _ P _ _ (mailbox_met p (get_member (codes "mailbox") ms)) (λ mailbox hmailbox.
+    meets_then _ P _ _ (process_met p _ _ _ _) (λ process hprocess.
+    meets_then _ P _ _ (any_met (truth_in p true (get_member (codes "lrw") ms))) (λ lrw _.
+    meets_then _ P _ _ (described_if_met v.hardware _ _ (described_met p process (get_member (codes "out_manager") ms) (get_member (codes "in_manager") ms) (get_member (codes "firmware") ms) (get_member (codes "fmmus") ms) (get_member (codes "revision") ms))) (λ hardware hhardware.
+    meets_then _ P _ _ (must_met (not (is_named (λ (t : TypeRow). t.name) name found || process_twice process)) (TwiceNamed p)) (λ w hw.
+    meets_then _ P _ _ (must_met (is_possible mailbox hardware) (BadValue p)) (λ x possible.
     let parts : (is_named (λ (t : TypeRow). t.name) name found ≡ false) × (process_twice process ≡ false) = or_parts (is_named (λ (t : TypeRow). t.name) name found) (process_twice process) (not_true _ hw) in
-    meets_ok (NewType found) (record { name = name; device = device; mailbox = mailbox; process = process; lrw = lrw }) (record {
-      sound = type_read (record { name = name; device = device; mailbox = mailbox; process = process; lrw = lrw }) hname hdevice hmailbox hprocess.out_start hprocess.in_start (pdos_of_process process hprocess parts.1 (record { name = name; device = device; mailbox = mailbox; process = process; lrw = lrw }) refl);
-      fresh = fresh (λ (t : TypeRow). t.name) name found parts.0;
-    }))))))))
+    let row : TypeRow = record { name = name; device = device; mailbox = mailbox; process = process; lrw = lrw; hardware = hardware } in
+    let told : (h : Hardware) → hardware ≡ Some h → IsDescribed row h
+    = λ h is. let read = hhardware.each h is in record {
+      limits = is_hardware mailbox h read.outputs read.inputs read.some_fmmus read.few_fmmus (some_test mailbox hardware h possible is);
+      pins = read.pins;
+      revision = λ any. hdevice.1 (revision_none (get_member (codes "revision") ms) (sym read.any ∙ any));
+    } in
+    meets_ok P row (
+      record {
+        sound = type_read row hname hdevice.0 hmailbox hprocess.out_start hprocess.in_start (pdos_of_process process hprocess parts.1 row refl) told;
+        fresh = fresh (λ (t : TypeRow). t.name) name found parts.0;
+      },
+      hhardware.there,
+    ))))))))))
 
 pub type_added : (found : List TypeRow) (t : TypeRow) → AreTypes found → NewType found t → AreTypes (found ++ t ∷ [])
 type_added found t h n = record { each = All-push IsType found t h.each n.sound; once = all_pairs_push (λ (t u : TypeRow). t.name ≢ u.name) found t h.once n.fresh }
 
-pub types_met : (v : Version) (ds : Items) → Meets (rows_after (type_element v) [] 0 ds) AreTypes
-types_met v ds = rows_met AreTypes NewType (type_element v) (λ n d found. members_met (NewType found) _ d _ (λ ms. type_met v _ ms found)) type_added [] 0 ds (record { each = All-nil IsType; once = λ i j d p q. absurd (omega arith) })
+pub types_met : (v : Format) (ds : Items) → Meets (rows_after (type_element v) [] 0 ds) AreTypes
+types_met v ds = rows_met AreTypes NewType (type_element v) (λ n d found. members_met (NewType found) _ d _ (λ ms. record { all = λ t is. ((type_met v _ ms found).all t is).0 })) type_added [] 0 ds (record { each = All-nil IsType; once = λ i j d p q. absurd (omega arith) })
+
+pub types_of_format : (v : Format) (ds : Items) → Meets (rows_after (type_element v) [] 0 ds) (All (λ (t : TypeRow). is_some t.hardware ≡ v.hardware))
+types_of_format v ds =
+    let P : TypeRow → Type 0 = λ t. is_some t.hardware ≡ v.hardware in
+    rows_met (All P) (λ found t. P t) (type_element v) (λ n d found. members_met P _ d _ (λ ms. record { all = λ t is. ((type_met v _ ms found).all t is).1 })) (λ found t h n. All-push P found t h n) [] 0 ds (All-nil P)
 
 -- ---- variables
 
@@ -175,21 +336,38 @@ pub record NewVariable (found : List VariableRow) (w : VariableRow) : Type 0 whe
   pub sound : IsVariable w
   pub fresh : (k : ℕ) (d : VariableRow) → k < length found → (get_or found k d).name ≢ w.name
 
-pub variable_met : (v : Version) (p : Position) (ms : Members) (found : List VariableRow) → Meets (variable_at v p ms found) (NewVariable found)
+-- a table that isn't for hardware has no key `signed`
+signed_in : (version : Version) (hardware : Bool) (ms : Members) → let f : Format = record { version = version; hardware = hardware } in keys_are shape.Variable f ms ≡ true → hardware ≡ false → get_member (codes "signed") ms ≡ None
+signed_in version false ms keys e =
+    let f : Format = record { version = version; hardware = false } in
+    no_such_key (is_key shape.Variable f) (codes "signed") ms refl (and_parts (each_key (is_key shape.Variable f) ms) (has_required shape.Variable f ms) keys).0
+signed_in version true ms keys e = cc
+
+pub variable_met : (v : Format) (p : Position) (ms : Members) (found : List VariableRow) → Meets (variable_at v p ms found) (λ w. NewVariable found w × (v.hardware ≡ false → w.signed ≡ false))
 unfolding variable_at
 variable_met v p ms found =
-    meets_then _ (NewVariable found) _ _ (any_met (must (keys_are shape.Variable v ms) (BadKey p))) (λ u _.
-    meets_then _ (NewVariable found) _ _ (name_met p (get_member (codes "name") ms)) (λ name hname.
-    meets_then _ (NewVariable found) _ _ (any_met (direction_in p (get_member (codes "dir") ms))) (λ direction _.
-    meets_then _ (NewVariable found) _ _ (number_met p 1 64 (get_member (codes "bits") ms)) (λ bits hbits.
-    meets_then _ (NewVariable found) _ _ (must_met (not (is_named (λ (w : VariableRow). w.name) name found)) (TwiceNamed p)) (λ w hw.
-    meets_ok (NewVariable found) (record { name = name; direction = direction; bits = bits }) (record {
-      sound = record { name = hname; least = hbits.0; most = hbits.1 };
-      fresh = fresh (λ (x : VariableRow). x.name) name found (not_true _ hw);
-    }))))))
+    let P : VariableRow → Type 0 = λ w. NewVariable found w × (v.hardware ≡ false → w.signed ≡ false) in
+    meets_then _ P _ _ (must_met (keys_are shape.Variable v ms) (BadKey p)) (λ u keys.
+    meets_then _ P _ _ (name_met p (get_member (codes "name") ms)) (λ name hname.
+    meets_then _ P _ _ (any_met (direction_in p (get_member (codes "dir") ms))) (λ direction _.
+    meets_then _ P _ _ (number_met p 1 64 (get_member (codes "bits") ms)) (λ bits hbits.
+    meets_then _ P _ _ (truth_met p false (get_member (codes "signed") ms)) (λ signed hsigned.
+    meets_then _ P _ _ (must_met (not (is_named (λ (w : VariableRow). w.name) name found)) (TwiceNamed p)) (λ w hw.
+    meets_ok P (record { name = name; direction = direction; bits = bits; signed = signed }) (
+      record {
+        sound = record { name = hname; least = hbits.0; most = hbits.1 };
+        fresh = fresh (λ (x : VariableRow). x.name) name found (not_true _ hw);
+      },
+      λ none. hsigned (signed_in v.version v.hardware ms keys none),
+    )))))))
 
 pub variable_added : (found : List VariableRow) (w : VariableRow) → AreVariables found → NewVariable found w → AreVariables (found ++ w ∷ [])
 variable_added found w h n = record { each = All-push IsVariable found w h.each n.sound; once = all_pairs_push (λ (w x : VariableRow). w.name ≢ x.name) found w h.once n.fresh }
 
-pub variables_met : (v : Version) (ds : Items) → Meets (rows_after (variable_element v) [] 0 ds) AreVariables
-variables_met v ds = rows_met AreVariables NewVariable (variable_element v) (λ n d found. members_met (NewVariable found) _ d _ (λ ms. variable_met v _ ms found)) variable_added [] 0 ds (record { each = All-nil IsVariable; once = λ i j d p q. absurd (omega arith) })
+pub variables_met : (v : Format) (ds : Items) → Meets (rows_after (variable_element v) [] 0 ds) AreVariables
+variables_met v ds = rows_met AreVariables NewVariable (variable_element v) (λ n d found. members_met (NewVariable found) _ d _ (λ ms. record { all = λ w is. ((variable_met v _ ms found).all w is).0 })) variable_added [] 0 ds (record { each = All-nil IsVariable; once = λ i j d p q. absurd (omega arith) })
+
+pub variables_of_format : (v : Format) (ds : Items) → Meets (rows_after (variable_element v) [] 0 ds) (All (λ (w : VariableRow). v.hardware ≡ false → w.signed ≡ false))
+variables_of_format v ds =
+    let P : VariableRow → Type 0 = λ w. v.hardware ≡ false → w.signed ≡ false in
+    rows_met (All P) (λ found w. P w) (variable_element v) (λ n d found. members_met P _ d _ (λ ms. record { all = λ w is. ((variable_met v _ ms found).all w is).1 })) (λ found w h n. All-push P found w h n) [] 0 ds (All-nil P)

@@ -1,25 +1,20 @@
 -- What was read is sound: slaves, links, and the whole.
 use Rattle.std.proofs.Common.{◌≡◌, ◌≢◌, ℕ, ◌<◌, ◌≤◌, Bool, true, false, not, ◌&&◌, ◌||◌, ◌==◌, List, [], ◌∷◌, ◌++◌, length, get_or, Ok, Option, Some, None, is_some, All, Contains, unwrap_or, position, subst, arith, refl, codes, slice_get}
 use Rattle.std.specs.List.{list_any}
-use Rattle.std.specs.Str.{bytes_eq}
 use Rattle.std.specs.Option.{ok_or}
-use Rattle.std.specs.Ordering.{is_eq, match_ordering, nat_cmp}
-use Rattle.std.specs.Cmp.Lexicographic.{slice_cmp}
-use Rattle.std.specs.declared.cmp.Ordering.{Ordering}
-use Rattle.std.specs.declared.cmp.Ordering.TheVariants.{Less, Equal, Greater}
 use Rattle.std.proofs.lemmas.Bool.{or_parts, and_parts}
 use Rattle.std.proofs.lemmas.Bool.Decides.{Decides-eqb}
-use Rattle.std.proofs.lemmas.Map.Text.{is_eq-slice_cmp}
 use Rattle.std.proofs.lemmas.Slice.Eq.{bytes_eq-Decides}
 use Rattle.std.proofs.lemmas.List.Folds.{Any-from_list_any}
 use Rattle.std.proofs.lemmas.List.Elements.{All-push, All-nil, All-cons, All-get_or}
 use Rattle.std.proofs.lemmas.List.Quantifiers.{all_pairs_push, position-Some}
 use Rattle.std.proofs.lemmas.Option.{slice_get_within, get_or_from_slice_get}
 use Rattle.toml.specs.Parse.{parse_document}
-use Rattle.toml.specs.Data.{Data, Members, no_members, member, Items, at, get_member}
+use Rattle.toml.specs.Data.{Data, Members, Items, at, get_member}
 use Rattle.ec_device.specs.declared.slave_type.Mailbox.{Mailbox}
 use Rattle.ec_table.specs.declared.fault.Fault.TheVariants.{Toml, BadKey, BadValue, TwiceNamed, UnknownName}
 use Rattle.ec_table.specs.declared.fault.Position.{Position}
+use Rattle.ec_table.specs.declared.rows.Format.{Format}
 use Rattle.ec_table.specs.declared.rows.Version.{Version}
 use Rattle.ec_table.specs.declared.rows.Version.TheVariants.{One, Two}
 use Rattle.ec_table.specs.declared.rows.Direction.{Direction}
@@ -31,44 +26,28 @@ use Rattle.ec_table.specs.declared.rows.LinkBits.{LinkBits}
 use Rattle.ec_table.specs.declared.rows.LinkRow.{LinkRow}
 use Rattle.ec_table.specs.declared.keys.Shape.TheVariants as shape
 use Rattle.ec_table.specs.Contents.{pdos_toward, assigned_toward}
-use Rattle.ec_table.specs.Fields.{must, each_key, is_key, has_required, keys_are, link_bits_of, link_bits_in, number_or_0, version_in, section_in}
+use Rattle.ec_table.specs.Fields.{must, each_key, is_key, has_required, keys_are, link_bits_of, link_bits_in, section_in}
 use Rattle.ec_table.specs.InOrder.{rows_after}
 use Rattle.ec_table.specs.Pdos.{indices_of, has_twice, numbers_in}
-use Rattle.ec_table.specs.Reading.{all_in, same_list, assigned_in, slave_at, slave_named, slave_of_type, slave_element, all_bits, link_at, link_element, type_element, variable_element, top, table_of_document, table_of_sections, table_of}
+use Rattle.ec_table.specs.Reading.{all_in, same_list, assigned_in, slave_at, slave_named, slave_of_type, slave_element, all_bits, link_at, link_element, type_element, variable_element, top, stated_format, table_of_document, table_of_sections, table_of}
 use Rattle.ec_table.specs.Names.{is_named, index_named}
 use Rattle.ec_table.specs.Sound.{IsOnce, IsType, AreTypes, IsAssignment, IsSlave, AreSlaves, IsVariable, AreVariables, IsBits, IsLink, IsSound, IsName}
 use Rattle.ec_table.proofs.Ranges.{pdos_toward_read}
 use Rattle.ec_table.specs.Laws.{AcceptedIsSound}
 use Rattle.ec_table.proofs.ValueTests.{Meets, meets_ok, meets_then, any_met, must_met, ok_or_met, number_met, name_met, rows_met}
-use Rattle.ec_table.proofs.SoundReads.{once_from_test, not_true, fresh, members_met, types_met, variables_met}
+use Rattle.ec_table.proofs.SoundReads.{once_from_test, not_true, fresh, no_such_key, members_met, number_or_0_met, types_met, types_of_format, variables_met, variables_of_format}
 
 -- ---- keys
 
-pub false_from : (b : Bool) → (b ≡ true → ⊥) → b ≡ false
-false_from true h = absurd (h refl)
-false_from false h = refl
-
-skipped : (o : Ordering) (k l : List ℕ) (d : Data) (rest : Option Data) → is_eq o ≡ bytes_eq k l → bytes_eq k l ≡ false → rest ≡ None → match_ordering o rest (Some d) rest ≡ None
-skipped Less k l d rest same differ none = none
-skipped Equal k l d rest same differ none = cc
-skipped Greater k l d rest same differ none = none
-
--- where each key passes, one that doesn't is none
-pub no_such_key : (test : List ℕ → Bool) (k : List ℕ) (ms : Members) → test k ≡ false → each_key test ms ≡ true → get_member k ms ≡ None
-no_such_key test k no_members fails each = refl
-no_such_key test k (member l d ms) fails each =
-    let parts : (test l ≡ true) × (each_key test ms ≡ true) = and_parts (test l) (each_key test ms) each in
-    let differ : bytes_eq k l ≡ false = false_from (bytes_eq k l) (λ e. let same : k ≡ l = (bytes_eq-Decides k l).0 e in cc) in
-    skipped (slice_cmp nat_cmp k l) k l d (get_member k ms) (is_eq-slice_cmp k l) differ (no_such_key test k ms fails parts.1)
-
 -- version 1 has no key `unit`
-pub no_unit : (v : Version) (ms : Members) → keys_are shape.Slave v ms ≡ true → v ≡ One → get_member (codes "unit") ms ≡ None
-no_unit One ms keys e = no_such_key (is_key shape.Slave One) (codes "unit") ms refl (and_parts (each_key (is_key shape.Slave One) ms) (has_required shape.Slave ms) keys).0
-no_unit Two ms keys e = cc
+unit_in : (v : Version) (hardware : Bool) (ms : Members) → let f : Format = record { version = v; hardware = hardware } in keys_are shape.Slave f ms ≡ true → v ≡ One → get_member (codes "unit") ms ≡ None
+unit_in One hardware ms keys e =
+    let f : Format = record { version = One; hardware = hardware } in
+    no_such_key (is_key shape.Slave f) (codes "unit") ms refl (and_parts (each_key (is_key shape.Slave f) ms) (has_required shape.Slave f ms) keys).0
+unit_in Two hardware ms keys e = cc
 
-pub number_or_0_met : (p : Position) (most : ℕ) (v : Option Data) → Meets (number_or_0 p most v) (λ n. (n ≤ most) × (v ≡ None → n ≡ 0))
-number_or_0_met p most None = meets_ok (λ n. (n ≤ most) × (None ≡ None → n ≡ 0)) 0 (omega arith, λ e. refl)
-number_or_0_met p most (Some d) = record { all = λ n is. (((number_met p 0 most (Some d)).all n is).1, λ e. cc) }
+pub no_unit : (f : Format) (ms : Members) → keys_are shape.Slave f ms ≡ true → f.version ≡ One → get_member (codes "unit") ms ≡ None
+no_unit f ms keys e = unit_in f.version f.hardware ms keys e
 
 -- ---- slaves
 
@@ -119,15 +98,15 @@ once_or_all : (o : Option (List ℕ)) (all : List ℕ) → has_twice (unwrap_or 
 once_or_all None all h a = a
 once_or_all (Some xs) all h a = once_from_test xs h
 
-pub record NewSlave (v : Version) (ts : List TypeRow) (found : List SlaveRow) (s : SlaveRow) : Type 0 where
-  pub sound : IsSlave v ts s
+pub record NewSlave (v : Format) (ts : List TypeRow) (found : List SlaveRow) (s : SlaveRow) : Type 0 where
+  pub sound : IsSlave v.version ts s
   pub fresh : (k : ℕ) (d : SlaveRow) → k < length found → (get_or found k d).name ≢ s.name
 
 pub type_at_place : (ts : List TypeRow) (k : ℕ) (t : TypeRow) → AreTypes ts → slice_get ts k ≡ Some t → IsType t
 type_at_place ts k t h is = subst IsType (get_or_from_slice_get ts k t t is) (All-get_or IsType ts k t (slice_get_within ts k t is) h.each)
 
 -- the row that the tests of a slave end with
-pub slave_sound : (v : Version) (ts : List TypeRow) (k : ℕ) (t : TypeRow) (s : SlaveRow) → AreTypes ts → slice_get ts k ≡ Some t → s.type_index ≡ k → Fits t s s → ((d : Direction) → IsOnce (assigned_toward d s)) → IsName s.name → s.serial ≤ 4294967295 → s.unit ≤ 63 → (v ≡ One → s.unit ≡ 0) → IsSlave v ts s
+pub slave_sound : (v : Format) (ts : List TypeRow) (k : ℕ) (t : TypeRow) (s : SlaveRow) → AreTypes ts → slice_get ts k ≡ Some t → s.type_index ≡ k → Fits t s s → ((d : Direction) → IsOnce (assigned_toward d s)) → IsName s.name → s.serial ≤ 4294967295 → s.unit ≤ 63 → (v.version ≡ One → s.unit ≡ 0) → IsSlave v.version ts s
 slave_sound v ts k t s types is place fits once name serial unit one = record {
   name = name;
   known = rw place (slice_get_within ts k t is);
@@ -138,7 +117,7 @@ slave_sound v ts k t s types is place fits once name serial unit one = record {
   one_unit = one;
 }
 
-pub slave_met : (v : Version) (ts : List TypeRow) (p : Position) (ms : Members) (found : List SlaveRow) → AreTypes ts → Meets (slave_at v ts p ms found) (NewSlave v ts found)
+pub slave_met : (v : Format) (ts : List TypeRow) (p : Position) (ms : Members) (found : List SlaveRow) → AreTypes ts → Meets (slave_at v ts p ms found) (NewSlave v ts found)
 unfolding slave_at slave_named slave_of_type
 slave_met v ts p ms found types =
     meets_then _ (NewSlave v ts found) _ _ (must_met (keys_are shape.Slave v ms) (BadKey p)) (λ u keys.
@@ -169,11 +148,11 @@ slave_met v ts p ms found types =
           });
     }))))))))))
 
-pub slave_added : (v : Version) (ts : List TypeRow) (found : List SlaveRow) (s : SlaveRow) → AreSlaves v ts found → NewSlave v ts found s → AreSlaves v ts (found ++ s ∷ [])
-slave_added v ts found s h n = record { each = All-push (IsSlave v ts) found s h.each n.sound; once = all_pairs_push (λ (s r : SlaveRow). s.name ≢ r.name) found s h.once n.fresh }
+pub slave_added : (v : Format) (ts : List TypeRow) (found : List SlaveRow) (s : SlaveRow) → AreSlaves v.version ts found → NewSlave v ts found s → AreSlaves v.version ts (found ++ s ∷ [])
+slave_added v ts found s h n = record { each = All-push (IsSlave v.version ts) found s h.each n.sound; once = all_pairs_push (λ (s r : SlaveRow). s.name ≢ r.name) found s h.once n.fresh }
 
-pub slaves_met : (v : Version) (ts : List TypeRow) (ds : Items) → AreTypes ts → Meets (rows_after (slave_element v ts) [] 0 ds) (AreSlaves v ts)
-slaves_met v ts ds types = rows_met (AreSlaves v ts) (NewSlave v ts) (slave_element v ts) (λ n d found. members_met (NewSlave v ts found) _ d _ (λ ms. slave_met v ts _ ms found types)) (slave_added v ts) [] 0 ds (record { each = All-nil (IsSlave v ts); once = λ i j d p q. absurd (omega arith) })
+pub slaves_met : (v : Format) (ts : List TypeRow) (ds : Items) → AreTypes ts → Meets (rows_after (slave_element v ts) [] 0 ds) (AreSlaves v.version ts)
+slaves_met v ts ds types = rows_met (AreSlaves v.version ts) (NewSlave v ts) (slave_element v ts) (λ n d found. members_met (NewSlave v ts found) _ d _ (λ ms. slave_met v ts _ ms found types)) (slave_added v ts) [] 0 ds (record { each = All-nil (IsSlave v.version ts); once = λ i j d p q. absurd (omega arith) })
 
 -- ---- links
 
@@ -202,7 +181,7 @@ position_within test (x ∷ xs) k h = (position-Some test (x ∷ xs) k x h).0
 variable_at_place : (ws : List VariableRow) (k : ℕ) (w : VariableRow) → AreVariables ws → slice_get ws k ≡ Some w → IsVariable w
 variable_at_place ws k w h is = subst IsVariable (get_or_from_slice_get ws k w w is) (All-get_or IsVariable ws k w (slice_get_within ws k w is) h.each)
 
-pub link_met : (v : Version) (ss : List SlaveRow) (ws : List VariableRow) (p : Position) (ms : Members) → AreVariables ws → Meets (link_at v ss ws p ms) (IsLink ss ws)
+pub link_met : (v : Format) (ss : List SlaveRow) (ws : List VariableRow) (p : Position) (ms : Members) → AreVariables ws → Meets (link_at v ss ws p ms) (IsLink ss ws)
 unfolding link_at
 link_met v ss ws p ms variables =
     meets_then _ (IsLink ss ws) _ _ (any_met (must (keys_are shape.Link v ms) (BadKey p))) (λ u keys.
@@ -224,31 +203,37 @@ link_met v ss ws p ms variables =
       bits = bits_or_all bits w hbits (variable_at_place ws variable w variables is);
     }))))))))))
 
-pub links_met : (v : Version) (ss : List SlaveRow) (ws : List VariableRow) (ds : Items) → AreVariables ws → Meets (rows_after (link_element v ss ws) [] 0 ds) (All (IsLink ss ws))
+pub links_met : (v : Format) (ss : List SlaveRow) (ws : List VariableRow) (ds : Items) → AreVariables ws → Meets (rows_after (link_element v ss ws) [] 0 ds) (All (IsLink ss ws))
 links_met v ss ws ds variables = rows_met (All (IsLink ss ws)) (λ found x. IsLink ss ws x) (link_element v ss ws) (λ n d found. members_met (IsLink ss ws) _ d _ (λ ms. link_met v ss ws _ ms variables)) (λ found x h n. All-push (IsLink ss ws) found x h n) [] 0 ds (All-nil (IsLink ss ws))
 
 -- ---- the whole
 
-pub read_sound : (v : Version) (type_items slave_items variable_items link_items : Items) (ts : List TypeRow) (ss : List SlaveRow) (ws : List VariableRow) (ls : List LinkRow) → rows_after (type_element v) [] 0 type_items ≡ Ok ts → rows_after (slave_element v ts) [] 0 slave_items ≡ Ok ss → rows_after (variable_element v) [] 0 variable_items ≡ Ok ws → rows_after (link_element v ss ws) [] 0 link_items ≡ Ok ls → IsSound (record { version = v; types = ts; slaves = ss; variables = ws; links = ls; full = false })
+pub read_sound : (v : Format) (type_items slave_items variable_items link_items : Items) (ts : List TypeRow) (ss : List SlaveRow) (ws : List VariableRow) (ls : List LinkRow) → rows_after (type_element v) [] 0 type_items ≡ Ok ts → rows_after (slave_element v ts) [] 0 slave_items ≡ Ok ss → rows_after (variable_element v) [] 0 variable_items ≡ Ok ws → rows_after (link_element v ss ws) [] 0 link_items ≡ Ok ls → IsSound (record { version = v.version; hardware = v.hardware; types = ts; slaves = ss; variables = ws; links = ls; full = false })
 read_sound v type_items slave_items variable_items link_items ts ss ws ls it is iw il =
     let types : AreTypes ts = (types_met v type_items).all ts it in
     let variables : AreVariables ws = (variables_met v variable_items).all ws iw in
-    record { types = types; slaves = (slaves_met v ts slave_items types).all ss is; variables = variables; links = (links_met v ss ws link_items variables).all ls il }
+    record {
+      types = types;
+      slaves = (slaves_met v ts slave_items types).all ss is;
+      variables = variables;
+      links = (links_met v ss ws link_items variables).all ls il;
+      format = record { types = (types_of_format v type_items).all ts it; variables = λ none k w lt. (variables_of_format v variable_items).all ws iw k w lt none };
+    }
 
 pub document_met : (ms : Members) → Meets (table_of_document ms) IsSound
 unfolding table_of_document table_of_sections
 document_met ms =
-    meets_then _ IsSound _ _ (any_met (version_in top (get_member (codes "version") ms))) (λ v _.
+    meets_then _ IsSound _ _ (any_met (stated_format ms)) (λ v _.
     meets_then _ IsSound _ _ (any_met (must (keys_are shape.Document v ms) (BadKey top))) (λ u _.
     meets_then _ IsSound _ _ (any_met (section_in top (get_member (codes "type") ms))) (λ type_items _.
     meets_then _ IsSound _ _ (any_met (section_in top (get_member (codes "slave") ms))) (λ slave_items _.
     meets_then _ IsSound _ _ (any_met (section_in top (get_member (codes "variable") ms))) (λ variable_items _.
     meets_then _ IsSound _ _ (any_met (section_in top (get_member (codes "link") ms))) (λ link_items _.
-    meets_then _ IsSound _ _ (types_met v type_items) (λ ts types.
-    meets_then _ IsSound _ _ (slaves_met v ts slave_items types) (λ ss slaves.
-    meets_then _ IsSound _ _ (variables_met v variable_items) (λ ws variables.
-    meets_then _ IsSound _ _ (links_met v ss ws link_items variables) (λ ls links.
-    meets_ok IsSound (record { version = v; types = ts; slaves = ss; variables = ws; links = ls; full = false }) (record { types = types; slaves = slaves; variables = variables; links = links })))))))))))
+    meets_then (λ ts. rows_after (type_element v) [] 0 type_items ≡ Ok ts) IsSound _ _ (record { all = λ ts is. is }) (λ ts it.
+    meets_then (λ ss. rows_after (slave_element v ts) [] 0 slave_items ≡ Ok ss) IsSound _ _ (record { all = λ ss is. is }) (λ ss is.
+    meets_then (λ ws. rows_after (variable_element v) [] 0 variable_items ≡ Ok ws) IsSound _ _ (record { all = λ ws is. is }) (λ ws iw.
+    meets_then (λ ls. rows_after (link_element v ss ws) [] 0 link_items ≡ Ok ls) IsSound _ _ (record { all = λ ls is. is }) (λ ls il.
+    meets_ok IsSound _ (read_sound v type_items slave_items variable_items link_items ts ss ws ls it is iw il)))))))))))
 
 pub text_met : (text : List ℕ) → Meets (table_of text) IsSound
 unfolding table_of

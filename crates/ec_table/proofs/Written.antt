@@ -1,5 +1,5 @@
 -- A sound table, written out, is read: values, entries, objects, variables.
-use Rattle.std.proofs.Common.{◌≡◌, ◌≢◌, ℕ, ◌+◌, ◌<◌, ◌≤◌, true, false, not, ◌||◌, ◌==◌, nat_le, List, [], ◌∷◌, ◌++◌, length, get_or, map, Result, Ok, Some, All, AllPairs, refl, sym, ◌∙◌, ap, subst, arith, append_assoc, length-append}
+use Rattle.std.proofs.Common.{◌≡◌, ◌≢◌, ℕ, ◌+◌, ◌<◌, ◌≤◌, Bool, true, false, not, ◌||◌, ◌==◌, nat_le, List, [], ◌∷◌, ◌++◌, length, get_or, map, Result, Ok, Some, All, AllPairs, refl, sym, ◌∙◌, ap, subst, arith, append_assoc, length-append}
 use Rattle.std.specs.List.{list_any}
 use Rattle.std.specs.Str.{bytes_eq}
 use Rattle.std.proofs.lemmas.Bool.Decides.{nat_tests}
@@ -13,22 +13,24 @@ use Rattle.toml.specs.View.{items_of}
 use Rattle.ec_device.specs.declared.slave_type.Entry.{Entry}
 use Rattle.ec_device.specs.declared.slave_type.Pdo.{Pdo}
 use Rattle.ec_device.specs.declared.slave_type.Mailbox.{Mailbox}
+use Rattle.ec_device.specs.declared.hardware.ProcessManager.{ProcessManager}
 use Rattle.ec_table.specs.declared.fault.Fault.{Fault}
 use Rattle.ec_table.specs.declared.fault.Position.{Position}
+use Rattle.ec_table.specs.declared.rows.Format.{Format}
 use Rattle.ec_table.specs.declared.rows.Version.{Version}
 use Rattle.ec_table.specs.declared.rows.Direction.{Direction}
 use Rattle.ec_table.specs.declared.rows.Direction.TheVariants.{Out, In}
 use Rattle.ec_table.specs.declared.rows.VariableRow.{VariableRow}
 use Rattle.ec_table.specs.declared.rows.LinkBits.{LinkBits}
-use Rattle.ec_table.specs.Fields.{number_in, name_in, mailbox_of, mailbox_in, direction_in, link_bits_of, link_bits_in}
+use Rattle.ec_table.specs.Fields.{number_in, name_in, mailbox_of, mailbox_in, manager_of, manager_in, direction_in, link_bits_of, link_bits_in}
 use Rattle.ec_table.specs.InOrder.{rows_after}
 use Rattle.ec_table.specs.Pdos.{entry_of, entry_row, array_of, array_in, pdo_of, pdo_row, pdos_in, number_row, number_list, numbers_in}
 use Rattle.ec_table.specs.Reading.{variable_at}
 use Rattle.ec_table.specs.Names.{is_named}
 use Rattle.ec_table.specs.Sound.{IsName, IsVariable, IsBits, first_index}
 use Rattle.ec_table.proofs.Ranges.{ReadMailbox, ReadEntry, ReadPdo, ReadPdos, last_index}
-use Rattle.ec_table.proofs.SoundRows.{false_from}
-use Rattle.ec_table.specs.Writing.{number, array_of_all, entry_data, pdo_data, mailbox_data, direction_text, variable_members, bits_data}
+use Rattle.ec_table.proofs.SoundReads.{false_from, ReadManager}
+use Rattle.ec_table.specs.Writing.{number, array_of_all, entry_data, pdo_data, mailbox_data, manager_data, direction_text, variable_members, bits_data}
 
 -- ---- values
 
@@ -51,6 +53,10 @@ direction_reads p In = refl
 pub mailbox_reads : (p : Position) (m : Mailbox) → ReadMailbox m → mailbox_in p (Some (mailbox_data m)) ≡ Ok (Some m)
 unfolding mailbox_in mailbox_of
 mailbox_reads p m h = rw (number_reads p 0 65535 m.receive_start (omega arith) h.receive_start, number_reads p 16 1024 m.receive_size h.receive_least h.receive_most, number_reads p 0 65535 m.send_start (omega arith) h.send_start, number_reads p 16 1024 m.send_size h.send_least h.send_most) refl
+
+pub manager_reads : (p : Position) (usual m : ProcessManager) → ReadManager m → manager_in p usual (Some (manager_data m)) ≡ Ok m
+unfolding manager_in manager_of
+manager_reads p usual m h = rw (number_reads p 0 3 m.number (omega arith) h.number, number_reads p 0 255 m.control (omega arith) h.control) refl
 
 pub bits_read : (p : Position) (b : LinkBits) → IsBits b → link_bits_in p (Some (bits_data b)) ≡ Ok (Some b)
 unfolding link_bits_in link_bits_of
@@ -119,6 +125,11 @@ not_before name_of before x after xs e h =
 
 -- ---- variables
 
-pub variable_reads : (v : Version) (p : Position) (w : VariableRow) (found : List VariableRow) → IsVariable w → is_named (λ (w : VariableRow). w.name) w.name found ≡ false → variable_at v p (variable_members w) found ≡ Ok w
+signed_reads : (version : Version) (hardware : Bool) (p : Position) (name : List ℕ) (direction : Direction) (bits : ℕ) (signed : Bool) (found : List VariableRow) → let w : VariableRow = record { name = name; direction = direction; bits = bits; signed = signed } in let f : Format = record { version = version; hardware = hardware } in
+    (hardware ≡ false → signed ≡ false) → IsVariable w → is_named (λ (w : VariableRow). w.name) name found ≡ false → variable_at f p (variable_members hardware w) found ≡ Ok w
 unfolding variable_at
-variable_reads v p w found h fresh = rw (name_reads p w.name h.name, direction_reads p w.direction, number_reads p 1 64 w.bits h.least h.most, fresh) refl
+signed_reads version false p name direction bits signed found none h fresh = rw (none refl, name_reads p name h.name, direction_reads p direction, number_reads p 1 64 bits h.least h.most, fresh) refl
+signed_reads version true p name direction bits signed found none h fresh = rw (name_reads p name h.name, direction_reads p direction, number_reads p 1 64 bits h.least h.most, fresh) refl
+
+pub variable_reads : (v : Format) (p : Position) (w : VariableRow) (found : List VariableRow) → (v.hardware ≡ false → w.signed ≡ false) → IsVariable w → is_named (λ (w : VariableRow). w.name) w.name found ≡ false → variable_at v p (variable_members v.hardware w) found ≡ Ok w
+variable_reads v p w found none h fresh = signed_reads v.version v.hardware p w.name w.direction w.bits w.signed found none h fresh

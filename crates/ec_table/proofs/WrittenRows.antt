@@ -1,29 +1,34 @@
 -- A sound table, written out, is read: types, slaves, links, the document.
-use Rattle.std.proofs.Common.{◌≡◌, ◌≢◌, ℕ, ◌+◌, Bool, false, ◌==◌, List, [], ◌∷◌, get_or, map, Ok, Option, Some, None, All, refl, sym, codes, arith, add-one}
+use Rattle.std.proofs.Common.{◌≡◌, ◌≢◌, ℕ, ◌+◌, ◌≤◌, Bool, true, false, ◌&&◌, ◌||◌, ◌==◌, nat_le, is_some, is_none, List, [], ◌∷◌, get_or, map, Ok, Option, Some, None, All, refl, sym, codes, arith, add-one}
 use Rattle.std.specs.List.{list_any}
 use Rattle.std.proofs.lemmas.Bool.{or_from}
 use Rattle.std.proofs.lemmas.List.Folds.{list_any_none}
-use Rattle.std.proofs.lemmas.Bool.Decides.{Decides-eqb}
-use Rattle.toml.specs.Data.{table, get_member}
+use Rattle.std.specs.Option.{ForSome}
+use Rattle.std.proofs.lemmas.Bool.Decides.{nat_tests, Decides-eqb}
+use Rattle.toml.specs.Data.{Data, Members, boolean, table, get_member}
 use Rattle.toml.specs.View.{items_of}
 use Rattle.ec_device.specs.declared.slave_type.Mailbox.{Mailbox}
+use Rattle.ec_device.specs.declared.hardware.ProcessManager.{ProcessManager}
+use Rattle.ec_device.specs.declared.hardware.Hardware.{Hardware}
+use Rattle.ec_device.specs.Hardware.{IsBesideMailbox, IsHardware, usual_outputs, usual_inputs, are_pins}
 use Rattle.ec_table.specs.declared.fault.Position.{Position}
-use Rattle.ec_table.specs.declared.rows.Version.{Version}
+use Rattle.ec_table.specs.declared.rows.Format.{Format}
 use Rattle.ec_table.specs.declared.rows.Direction.TheVariants.{Out, In}
 use Rattle.ec_device.specs.declared.slave_type.Device.{Device}
 use Rattle.ec_table.specs.declared.rows.ProcessData.{ProcessData}
 use Rattle.ec_table.specs.declared.rows.TypeRow.{TypeRow}
 use Rattle.ec_table.specs.declared.rows.VariableRow.{VariableRow}
-use Rattle.ec_table.specs.Fields.{mailbox_in}
+use Rattle.ec_table.specs.declared.keys.Shape.TheVariants as shape
+use Rattle.ec_table.specs.Fields.{keys_are, name_in, mailbox_in, truth_in}
 use Rattle.ec_table.specs.InOrder.{rows_after}
 use Rattle.ec_table.specs.Pdos.{indices_of, has_twice}
-use Rattle.ec_table.specs.Reading.{device_in, process_in, process_twice, type_at, type_named, type_element, variable_element}
+use Rattle.ec_table.specs.Reading.{device_in, process_in, process_twice, described, hardware_in, is_possible, type_at, type_named, type_element, variable_element}
 use Rattle.ec_table.specs.Names.{is_named}
-use Rattle.ec_table.specs.Sound.{IsOnce, IsDevice, IsType, AreTypes, IsVariable, AreVariables}
+use Rattle.ec_table.specs.Sound.{IsOnce, IsDevice, IsDescribed, IsType, AreTypes, IsVariable, AreVariables}
 use Rattle.ec_table.proofs.Ranges.{pdos_toward_read, mailbox_read}
-use Rattle.ec_table.specs.Writing.{type_members, variable_members}
-use Rattle.ec_table.proofs.Written.{number_reads, name_reads, mailbox_reads, rows_written, middle, pdos_read, not_before, variable_reads}
-use Rattle.ec_table.proofs.SoundRows.{false_from}
+use Rattle.ec_table.specs.Writing.{number, array_of_all, pdo_data, manager_data, type_members, variable_members}
+use Rattle.ec_table.proofs.Written.{number_reads, name_reads, mailbox_reads, manager_reads, rows_written, middle, pdos_read, not_before, variable_reads}
+use Rattle.ec_table.proofs.SoundReads.{false_from, ReadManager}
 
 -- ---- types
 
@@ -44,36 +49,150 @@ pub test_from_once : (xs : List ℕ) → IsOnce xs → has_twice xs ≡ false
 test_from_once [] h = refl
 test_from_once (x ∷ xs) h = or_from _ _ (some_later x xs (once_head x xs h)) (test_from_once xs (once_tail x xs h))
 
--- a row from its fields, with the mailbox apart
-abbrev row : List ℕ → Device → Option Mailbox → ProcessData → Bool → TypeRow
-row name device mailbox process lrw = record { name = name; device = device; mailbox = mailbox; process = process; lrw = lrw }
+-- a row from its fields, with the mailbox and the hardware apart
+abbrev row : List ℕ → Device → Option Mailbox → ProcessData → Bool → Option Hardware → TypeRow
+row name device mailbox process lrw hardware = record { name = name; device = device; mailbox = mailbox; process = process; lrw = lrw; hardware = hardware }
 
-device_reads : (p : Position) (name : List ℕ) (device : Device) (o : Option Mailbox) (process : ProcessData) (lrw : Bool) → IsDevice device → device_in p (get_member (codes "vendor") (type_members (row name device o process lrw))) (get_member (codes "product") (type_members (row name device o process lrw))) (get_member (codes "revision") (type_members (row name device o process lrw))) ≡ Ok device
+-- a part of hardware, with its revision apart
+abbrev part : (outputs inputs : ProcessManager) → (pins firmware : Bool) → ℕ → (any : Bool) → Hardware
+part outputs inputs pins firmware fmmus any = record { out_manager = outputs; in_manager = inputs; has_pins = pins; has_firmware = firmware; fmmus = fmmus; any_revision = any }
+
+-- what the reading of a type has to meet: each value that its members write
+pub record Reads (p : Position) (t : TypeRow) (ms : Members) : Type 0 where
+  pub name : name_in p (get_member (codes "name") ms) ≡ Ok t.name
+  pub device : device_in p (get_member (codes "vendor") ms) (get_member (codes "product") ms) (get_member (codes "revision") ms) ≡ Ok t.device
+  pub mailbox : mailbox_in p (get_member (codes "mailbox") ms) ≡ Ok t.mailbox
+  pub process : process_in p (get_member (codes "out_start") ms) (get_member (codes "in_start") ms) (get_member (codes "rxpdo") ms) (get_member (codes "txpdo") ms) ≡ Ok t.process
+  pub lrw : truth_in p true (get_member (codes "lrw") ms) ≡ Ok t.lrw
+  pub hardware : (f : Format) → is_some t.hardware ≡ f.hardware → (keys_are shape.Type f ms ≡ true) × (hardware_in f p t.process ms ≡ Ok t.hardware)
+
+device_writes : (p : Position) (device : Device) → IsDevice device → device_in p (Some (number device.vendor)) (Some (number device.product)) (Some (number device.revision)) ≡ Ok device
 unfolding device_in
-device_reads p name device None process lrw h = rw (number_reads p 0 4294967295 device.vendor (omega arith) h.vendor, number_reads p 0 4294967295 device.product (omega arith) h.product, number_reads p 0 4294967295 device.revision (omega arith) h.revision) refl
-device_reads p name device (Some m) process lrw h = rw (number_reads p 0 4294967295 device.vendor (omega arith) h.vendor, number_reads p 0 4294967295 device.product (omega arith) h.product, number_reads p 0 4294967295 device.revision (omega arith) h.revision) refl
+device_writes p device h = rw (number_reads p 0 4294967295 device.vendor (omega arith) h.vendor, number_reads p 0 4294967295 device.product (omega arith) h.product, number_reads p 0 4294967295 device.revision (omega arith) h.revision) refl
 
-process_reads : (p : Position) (name : List ℕ) (device : Device) (o : Option Mailbox) (process : ProcessData) (lrw : Bool) → IsType (row name device o process lrw) → process_in p (get_member (codes "out_start") (type_members (row name device o process lrw))) (get_member (codes "in_start") (type_members (row name device o process lrw))) (get_member (codes "rxpdo") (type_members (row name device o process lrw))) (get_member (codes "txpdo") (type_members (row name device o process lrw))) ≡ Ok process
+any_writes : (p : Position) (vendor product revision : ℕ) → IsDevice (record { vendor = vendor; product = product; revision = revision }) → revision ≡ 0 → device_in p (Some (number vendor)) (Some (number product)) None ≡ Ok (record { vendor = vendor; product = product; revision = revision })
+unfolding device_in
+any_writes p vendor product revision h zero = rw (zero, number_reads p 0 4294967295 vendor (omega arith) h.vendor, number_reads p 0 4294967295 product (omega arith) h.product) refl
+
+process_writes : (p : Position) (t : TypeRow) → IsType t → process_in p (Some (number t.process.out_start)) (Some (number t.process.in_start)) (Some (array_of_all pdo_data t.process.outputs)) (Some (array_of_all pdo_data t.process.inputs)) ≡ Ok t.process
 unfolding process_in
-process_reads p name device None process lrw h = rw (number_reads p 0 65535 process.out_start (omega arith) h.out_start, number_reads p 0 65535 process.in_start (omega arith) h.in_start, pdos_read p Out process.outputs (pdos_toward_read (row name device None process lrw) h Out), pdos_read p In process.inputs (pdos_toward_read (row name device None process lrw) h In)) refl
-process_reads p name device (Some m) process lrw h = rw (number_reads p 0 65535 process.out_start (omega arith) h.out_start, number_reads p 0 65535 process.in_start (omega arith) h.in_start, pdos_read p Out process.outputs (pdos_toward_read (row name device (Some m) process lrw) h Out), pdos_read p In process.inputs (pdos_toward_read (row name device (Some m) process lrw) h In)) refl
+process_writes p t h = rw (number_reads p 0 65535 t.process.out_start (omega arith) h.out_start, number_reads p 0 65535 t.process.in_start (omega arith) h.in_start, pdos_read p Out t.process.outputs (pdos_toward_read t h Out), pdos_read p In t.process.inputs (pdos_toward_read t h In)) refl
 
-no_process_twice : (name : List ℕ) (device : Device) (o : Option Mailbox) (process : ProcessData) (lrw : Bool) → IsType (row name device o process lrw) → process_twice process ≡ false
-no_process_twice name device o process lrw h = or_from _ _ (test_from_once (indices_of process.outputs) (pdos_toward_read (row name device o process lrw) h Out).once) (test_from_once (indices_of process.inputs) (pdos_toward_read (row name device o process lrw) h In).once)
+managers_read : (t : TypeRow) (h : Hardware) → IsType t → t.hardware ≡ Some h → ReadManager h.out_manager × ReadManager h.in_manager
+managers_read t h sound is =
+    let told : IsDescribed t h = sound.hardware h is in
+    (record { number = told.limits.out_number; control = told.limits.out_byte }, record { number = told.limits.in_number; control = told.limits.in_byte })
 
-fields_read : (v : Version) (p : Position) (name : List ℕ) (device : Device) (o : Option Mailbox) (process : ProcessData) (lrw : Bool) (found : List TypeRow) → IsType (row name device o process lrw) → is_named (λ (t : TypeRow). t.name) name found ≡ false → type_at v p (type_members (row name device o process lrw)) found ≡ Ok (row name device o process lrw)
-unfolding type_at type_named mailbox_in
-fields_read v p name device None process lrw found h fresh =
-    let r = row name device None process lrw in
-    rw (name_reads p name h.name, device_reads p name device None process lrw h.device, process_reads p name device None process lrw h, fresh, no_process_twice name device None process lrw h) refl
-fields_read v p name device (Some m) process lrw found h fresh =
-    rw (name_reads p name h.name, device_reads p name device (Some m) process lrw h.device, mailbox_reads p m (mailbox_read (row name device (Some m) process lrw) h m refl), process_reads p name device (Some m) process lrw h, fresh, no_process_twice name device (Some m) process lrw h) refl
+described_writes : (p : Position) (process : ProcessData) (h : Hardware) (revision : Option Data) → ReadManager h.out_manager → ReadManager h.in_manager → 2 ≤ h.fmmus → h.fmmus ≤ 4 → h.has_pins ≡ are_pins process.out_start → h.any_revision ≡ is_none revision
+    → described p process (Some (manager_data h.out_manager)) (Some (manager_data h.in_manager)) (Some (boolean h.has_firmware)) (Some (number h.fmmus)) revision ≡ Ok h
+unfolding described
+described_writes p process h revision outputs inputs some few pins any =
+    rw (manager_reads p usual_outputs h.out_manager outputs, manager_reads p usual_inputs h.in_manager inputs, number_reads p 2 4 h.fmmus some few, ← pins, ← any) refl
 
-pub type_reads : (v : Version) (p : Position) (t : TypeRow) (found : List TypeRow) → IsType t → is_named (λ (t : TypeRow). t.name) t.name found ≡ false → type_at v p (type_members t) found ≡ Ok t
-type_reads v p t found h fresh = fields_read v p t.name t.device t.mailbox t.process t.lrw found h fresh
+-- a type that says nothing of real devices
+none_reads : (p : Position) (name : List ℕ) (device : Device) (o : Option Mailbox) (process : ProcessData) (lrw : Bool) → let t = row name device o process lrw None in IsType t → Reads p t (type_members t)
+unfolding mailbox_in
+none_reads p name device None process lrw h = let t = row name device None process lrw None in record {
+  name = name_reads p name h.name;
+  device = device_writes p device h.device;
+  mailbox = refl;
+  process = process_writes p t h;
+  lrw = refl;
+  hardware = λ f is. rw (sym is) (refl, refl);
+}
+none_reads p name device (Some m) process lrw h = let t = row name device (Some m) process lrw None in record {
+  name = name_reads p name h.name;
+  device = device_writes p device h.device;
+  mailbox = mailbox_reads p m (mailbox_read t h m refl);
+  process = process_writes p t h;
+  lrw = refl;
+  hardware = λ f is. rw (sym is) (refl, refl);
+}
 
-pub types_read : (v : Version) (ts : List TypeRow) → AreTypes ts → rows_after (type_element v) [] 0 (items_of (map (λ t. table (type_members t)) ts)) ≡ Ok ts
-types_read v ts h = rows_written (type_element v) (λ t. table (type_members t)) [] ts (λ before t after e. type_reads v _ t before (middle IsType before t after ts e h.each) (not_before (λ (t : TypeRow). t.name) before t after ts e h.once))
+-- one for hardware, that has its revision or fits any
+some_reads : (p : Position) (name : List ℕ) (device : Device) (o : Option Mailbox) (process : ProcessData) (lrw : Bool) (outputs inputs : ProcessManager) (pins firmware : Bool) (fmmus : ℕ) (any : Bool) → let t = row name device o process lrw (Some (part outputs inputs pins firmware fmmus any)) in IsType t → Reads p t (type_members t)
+unfolding mailbox_in
+some_reads p name device None process lrw outputs inputs pins firmware fmmus false h =
+    let x = part outputs inputs pins firmware fmmus false in
+    let t = row name device None process lrw (Some x) in
+    let told : IsDescribed t x = h.hardware x refl in
+    let both = managers_read t x h refl in record {
+      name = name_reads p name h.name;
+      device = device_writes p device h.device;
+      mailbox = refl;
+      process = process_writes p t h;
+      lrw = refl;
+      hardware = λ f is. rw (sym is, described_writes p process x (Some (number device.revision)) both.0 both.1 told.limits.some_fmmus told.limits.few_fmmus told.pins refl) (refl, refl);
+    }
+some_reads p name device None process lrw outputs inputs pins firmware fmmus true h =
+    let x = part outputs inputs pins firmware fmmus true in
+    let t = row name device None process lrw (Some x) in
+    let told : IsDescribed t x = h.hardware x refl in
+    let both = managers_read t x h refl in record {
+      name = name_reads p name h.name;
+      device = any_writes p device.vendor device.product device.revision h.device (told.revision refl);
+      mailbox = refl;
+      process = process_writes p t h;
+      lrw = refl;
+      hardware = λ f is. rw (sym is, described_writes p process x None both.0 both.1 told.limits.some_fmmus told.limits.few_fmmus told.pins refl) (refl, refl);
+    }
+some_reads p name device (Some m) process lrw outputs inputs pins firmware fmmus false h =
+    let x = part outputs inputs pins firmware fmmus false in
+    let t = row name device (Some m) process lrw (Some x) in
+    let told : IsDescribed t x = h.hardware x refl in
+    let both = managers_read t x h refl in record {
+      name = name_reads p name h.name;
+      device = device_writes p device h.device;
+      mailbox = mailbox_reads p m (mailbox_read t h m refl);
+      process = process_writes p t h;
+      lrw = refl;
+      hardware = λ f is. rw (sym is, described_writes p process x (Some (number device.revision)) both.0 both.1 told.limits.some_fmmus told.limits.few_fmmus told.pins refl) (refl, refl);
+    }
+some_reads p name device (Some m) process lrw outputs inputs pins firmware fmmus true h =
+    let x = part outputs inputs pins firmware fmmus true in
+    let t = row name device (Some m) process lrw (Some x) in
+    let told : IsDescribed t x = h.hardware x refl in
+    let both = managers_read t x h refl in record {
+      name = name_reads p name h.name;
+      device = any_writes p device.vendor device.product device.revision h.device (told.revision refl);
+      mailbox = mailbox_reads p m (mailbox_read t h m refl);
+      process = process_writes p t h;
+      lrw = refl;
+      hardware = λ f is. rw (sym is, described_writes p process x None both.0 both.1 told.limits.some_fmmus told.limits.few_fmmus told.pins refl) (refl, refl);
+    }
 
-pub variables_read : (v : Version) (ws : List VariableRow) → AreVariables ws → rows_after (variable_element v) [] 0 (items_of (map (λ w. table (variable_members w)) ws)) ≡ Ok ws
-variables_read v ws h = rows_written (variable_element v) (λ w. table (variable_members w)) [] ws (λ before w after e. variable_reads v _ w before (middle IsVariable before w after ws e h.each) (not_before (λ (w : VariableRow). w.name) before w after ws e h.once))
+all_read : (p : Position) (name : List ℕ) (device : Device) (o : Option Mailbox) (process : ProcessData) (lrw : Bool) (hardware : Option Hardware) → let t = row name device o process lrw hardware in IsType t → Reads p t (type_members t)
+all_read p name device o process lrw None h = none_reads p name device o process lrw h
+all_read p name device o process lrw (Some x) h = some_reads p name device o process lrw x.out_manager x.in_manager x.has_pins x.has_firmware x.fmmus x.any_revision h
+
+no_process_twice : (t : TypeRow) → IsType t → process_twice t.process ≡ false
+no_process_twice t h = or_from _ _ (test_from_once (indices_of t.process.outputs) (pdos_toward_read t h Out).once) (test_from_once (indices_of t.process.inputs) (pdos_toward_read t h In).once)
+
+-- the last test
+le_test : (n m : ℕ) → n ≤ m → nat_le n m ≡ true
+le_test n m h = grind (arith, nat_tests)
+
+room : (mailbox : Option Mailbox) (h : Hardware) → ForSome mailbox (λ b. IsBesideMailbox h) → (is_none mailbox || (nat_le 2 h.out_manager.number && (nat_le 2 h.in_manager.number && h.has_firmware))) ≡ true
+room None h beside = refl
+room (Some m) h beside =
+    let b : IsBesideMailbox h = beside m refl in
+    rw (le_test 2 h.out_manager.number b.outputs, le_test 2 h.in_manager.number b.inputs) b.firmware
+
+possible : (mailbox : Option Mailbox) (o : Option Hardware) → ForSome o (IsHardware mailbox) → is_possible mailbox o ≡ true
+possible mailbox None h = refl
+possible mailbox (Some x) h =
+    let k : IsHardware mailbox x = h x refl in
+    rw (false_from (x.out_manager.number == x.in_manager.number) (λ e. k.apart ((Decides-eqb _ _).0 e)), (Decides-eqb _ 4).1 k.out_mode, (Decides-eqb _ 0).1 k.in_mode, room mailbox x k.mailbox) refl
+
+pub type_reads : (f : Format) (p : Position) (t : TypeRow) (found : List TypeRow) → is_some t.hardware ≡ f.hardware → IsType t → is_named (λ (t : TypeRow). t.name) t.name found ≡ false → type_at f p (type_members t) found ≡ Ok t
+unfolding type_at type_named
+type_reads f p t found is h fresh =
+    let reads : Reads p t (type_members t) = all_read p t.name t.device t.mailbox t.process t.lrw t.hardware h in
+    let format = reads.hardware f is in
+    rw (format.0, reads.name, reads.device, reads.mailbox, reads.process, reads.lrw, format.1, fresh, no_process_twice t h, possible t.mailbox t.hardware (λ x there. (h.hardware x there).limits)) refl
+
+pub types_read : (f : Format) (ts : List TypeRow) → AreTypes ts → All (λ (t : TypeRow). is_some t.hardware ≡ f.hardware) ts → rows_after (type_element f) [] 0 (items_of (map (λ t. table (type_members t)) ts)) ≡ Ok ts
+types_read f ts h same = rows_written (type_element f) (λ t. table (type_members t)) [] ts (λ before t after e. type_reads f _ t before (middle (λ (t : TypeRow). is_some t.hardware ≡ f.hardware) before t after ts e same) (middle IsType before t after ts e h.each) (not_before (λ (t : TypeRow). t.name) before t after ts e h.once))
+
+pub variables_read : (f : Format) (ws : List VariableRow) → AreVariables ws → All (λ (w : VariableRow). f.hardware ≡ false → w.signed ≡ false) ws → rows_after (variable_element f) [] 0 (items_of (map (λ w. table (variable_members f.hardware w)) ws)) ≡ Ok ws
+variables_read f ws h signs = rows_written (variable_element f) (λ w. table (variable_members f.hardware w)) [] ws (λ before w after e. variable_reads f _ w before (middle (λ (w : VariableRow). f.hardware ≡ false → w.signed ≡ false) before w after ws e signs) (middle IsVariable before w after ws e h.each) (not_before (λ (w : VariableRow). w.name) before w after ws e h.once))

@@ -9,11 +9,12 @@ use Rattle.std.proofs.lemmas.List.Folds.{list_any_at}
 use Rattle.std.proofs.lemmas.List.Sums.{position_or_len_is}
 use Rattle.std.proofs.lemmas.Option.{slice_get_within, get_or_from_slice_get, slice_get-get_or}
 use Rattle.std.proofs.lemmas.Slice.Eq.{bytes_eq-Decides}
-use Rattle.toml.specs.Data.{table, Members}
+use Rattle.toml.specs.Data.{table, boolean, Members}
 use Rattle.toml.specs.View.{items_of}
 use Rattle.ec_device.specs.declared.slave_type.Mailbox.{Mailbox}
 use Rattle.ec_device.specs.declared.slave_type.Pdo.{Pdo}
 use Rattle.ec_table.specs.declared.fault.Position.{Position}
+use Rattle.ec_table.specs.declared.rows.Format.{Format}
 use Rattle.ec_table.specs.declared.rows.Version.{Version}
 use Rattle.ec_table.specs.declared.rows.Version.TheVariants.{One, Two}
 use Rattle.ec_table.specs.declared.rows.Direction.{Direction}
@@ -22,8 +23,8 @@ use Rattle.ec_table.specs.declared.rows.TypeRow.{TypeRow}
 use Rattle.ec_table.specs.declared.rows.SlaveRow.{SlaveRow}
 use Rattle.ec_table.specs.declared.rows.VariableRow.{VariableRow}
 use Rattle.ec_table.specs.declared.rows.LinkRow.{LinkRow}
-use Rattle.ec_table.specs.Contents.{Contents, as_stated, pdos_toward, assigned_toward}
-use Rattle.ec_table.specs.Fields.{number_in, section_in, are_tables, version_in}
+use Rattle.ec_table.specs.Contents.{Contents, format_of, as_stated, pdos_toward, assigned_toward}
+use Rattle.ec_table.specs.Fields.{number_in, section_in, are_tables, version_in, format_in}
 use Rattle.ec_table.specs.InOrder.{rows_after}
 use Rattle.ec_table.specs.Pdos.{indices_of, has_twice}
 use Rattle.ec_table.specs.Reading.{all_in, same_list, assigned_in, slave_at, slave_named, slave_of_type, slave_element, link_at, link_element, table_of_document, table_of_sections, top}
@@ -102,9 +103,9 @@ assignment_fits p t s h =
 no_double : (s : SlaveRow) (t : TypeRow) (found : List SlaveRow) → ((d : Direction) → IsAssignment t.mailbox (pdos_toward d t) (assigned_toward d s)) → is_named (λ (s : SlaveRow). s.name) s.name found ≡ false → (is_named (λ (s : SlaveRow). s.name) s.name found || (has_twice s.outputs || has_twice s.inputs)) ≡ false
 no_double s t found h fresh = or_from (is_named (λ (s : SlaveRow). s.name) s.name found) (has_twice s.outputs || has_twice s.inputs) fresh (or_from (has_twice s.outputs) (has_twice s.inputs) (test_from_once s.outputs (h Out).once) (test_from_once s.inputs (h In).once))
 
-pub slave_reads : (v : Version) (ts : List TypeRow) (p : Position) (s : SlaveRow) (found : List SlaveRow) (t : TypeRow) → AreTypes ts → IsSlave v ts s → slice_get ts s.type_index ≡ Some t → is_named (λ (s : SlaveRow). s.name) s.name found ≡ false → slave_at v ts p (slave_members v ts s) found ≡ Ok s
+slave_in : (v : Version) (hardware : Bool) (ts : List TypeRow) (p : Position) (s : SlaveRow) (found : List SlaveRow) (t : TypeRow) → AreTypes ts → IsSlave v ts s → slice_get ts s.type_index ≡ Some t → is_named (λ (s : SlaveRow). s.name) s.name found ≡ false → slave_at (record { version = v; hardware = hardware }) ts p (slave_members v ts s) found ≡ Ok s
 unfolding slave_at slave_named slave_of_type
-slave_reads One ts p s found t types h is fresh =
+slave_in One hardware ts p s found t types h is fresh =
     let kind : IsType t = type_at_place ts s.type_index t types is in
     let fits : (d : Direction) → IsAssignment t.mailbox (pdos_toward d t) (assigned_toward d s) = λ d. h.assigned t d is in
     let unit : s.unit ≡ 0 = h.one_unit refl in
@@ -121,7 +122,7 @@ slave_reads One ts p s found t types h is fresh =
       ← unit,
     )
     (assignment_fits p t s fits)
-slave_reads Two ts p s found t types h is fresh =
+slave_in Two hardware ts p s found t types h is fresh =
     let kind : IsType t = type_at_place ts s.type_index t types is in
     let fits : (d : Direction) → IsAssignment t.mailbox (pdos_toward d t) (assigned_toward d s) = λ d. h.assigned t d is in
     rw (
@@ -138,11 +139,14 @@ slave_reads Two ts p s found t types h is fresh =
     )
     (assignment_fits p t s fits)
 
-pub slaves_read : (v : Version) (ts : List TypeRow) (ss : List SlaveRow) → AreTypes ts → AreSlaves v ts ss → rows_after (slave_element v ts) [] 0 (items_of (map (λ s. table (slave_members v ts s)) ss)) ≡ Ok ss
-slaves_read v ts ss types h = rows_written (slave_element v ts) (λ s. table (slave_members v ts s)) [] ss (λ before s after e.
-    let this : IsSlave v ts s = middle (IsSlave v ts) before s after ss e h.each in
+pub slave_reads : (f : Format) (ts : List TypeRow) (p : Position) (s : SlaveRow) (found : List SlaveRow) (t : TypeRow) → AreTypes ts → IsSlave f.version ts s → slice_get ts s.type_index ≡ Some t → is_named (λ (s : SlaveRow). s.name) s.name found ≡ false → slave_at f ts p (slave_members f.version ts s) found ≡ Ok s
+slave_reads f ts p s found t types h is fresh = slave_in f.version f.hardware ts p s found t types h is fresh
+
+pub slaves_read : (f : Format) (ts : List TypeRow) (ss : List SlaveRow) → AreTypes ts → AreSlaves f.version ts ss → rows_after (slave_element f ts) [] 0 (items_of (map (λ s. table (slave_members f.version ts s)) ss)) ≡ Ok ss
+slaves_read f ts ss types h = rows_written (slave_element f ts) (λ s. table (slave_members f.version ts s)) [] ss (λ before s after e.
+    let this : IsSlave f.version ts s = middle (IsSlave f.version ts) before s after ss e h.each in
     let kind = there_is ts s.type_index this.known in
-    slave_reads v ts _ s before kind.0 types this kind.1 (not_before (λ (s : SlaveRow). s.name) before s after ss e h.once))
+    slave_reads f ts _ s before kind.0 types this kind.1 (not_before (λ (s : SlaveRow). s.name) before s after ss e h.once))
 
 -- ---- links
 
@@ -152,7 +156,7 @@ slave_at_place v ts ss k s h is = subst (IsSlave v ts) (get_or_from_slice_get ss
 variable_at_place : (ws : List VariableRow) (k : ℕ) (w : VariableRow) → AreVariables ws → slice_get ws k ≡ Some w → IsVariable w
 variable_at_place ws k w h is = subst IsVariable (get_or_from_slice_get ws k w w is) (All-get_or IsVariable ws k w (slice_get_within ws k w is) h.each)
 
-link_reads : (v : Version) (ss : List SlaveRow) (ws : List VariableRow) (p : Position) (l : LinkRow) (s : SlaveRow) (w : VariableRow) → IsName s.name → IsName w.name → AllPairs (λ (s r : SlaveRow). s.name ≢ r.name) ss → AllPairs (λ (w x : VariableRow). w.name ≢ x.name) ws → slice_get ss l.slave ≡ Some s → slice_get ws l.variable ≡ Some w → IsLink ss ws l → link_at v ss ws p (link_members ss ws l) ≡ Ok l
+link_reads : (v : Format) (ss : List SlaveRow) (ws : List VariableRow) (p : Position) (l : LinkRow) (s : SlaveRow) (w : VariableRow) → IsName s.name → IsName w.name → AllPairs (λ (s r : SlaveRow). s.name ≢ r.name) ss → AllPairs (λ (w x : VariableRow). w.name ≢ x.name) ws → slice_get ss l.slave ≡ Some s → slice_get ws l.variable ≡ Some w → IsLink ss ws l → link_at v ss ws p (link_members ss ws l) ≡ Ok l
 unfolding link_at
 link_reads v ss ws p l s w slave_named variable_named slaves variables is iw h =
     rw (
@@ -168,12 +172,12 @@ link_reads v ss ws p l s w slave_named variable_named slaves variables is iw h =
       name_place (λ (s : SlaveRow). s.name) ss l.slave s slaves is,
     ) refl
 
-pub links_read : (v : Version) (ts : List TypeRow) (ss : List SlaveRow) (ws : List VariableRow) (ls : List LinkRow) → AreSlaves v ts ss → AreVariables ws → All (IsLink ss ws) ls → rows_after (link_element v ss ws) [] 0 (items_of (map (λ l. table (link_members ss ws l)) ls)) ≡ Ok ls
+pub links_read : (v : Format) (ts : List TypeRow) (ss : List SlaveRow) (ws : List VariableRow) (ls : List LinkRow) → AreSlaves v.version ts ss → AreVariables ws → All (IsLink ss ws) ls → rows_after (link_element v ss ws) [] 0 (items_of (map (λ l. table (link_members ss ws l)) ls)) ≡ Ok ls
 links_read v ts ss ws ls slaves variables h = rows_written (link_element v ss ws) (λ l. table (link_members ss ws l)) [] ls (λ before l after e.
     let this : IsLink ss ws l = middle (IsLink ss ws) before l after ls e h in
     let s = there_is ss l.slave this.slave in
     let w = there_is ws l.variable this.variable in
-    link_reads v ss ws _ l s.0 w.0 (slave_at_place v ts ss l.slave s.0 slaves s.1).name (variable_at_place ws l.variable w.0 variables w.1).name slaves.once variables.once s.1 w.1 this)
+    link_reads v ss ws _ l s.0 w.0 (slave_at_place v.version ts ss l.slave s.0 slaves s.1).name (variable_at_place ws l.variable w.0 variables w.1).name slaves.once variables.once s.1 w.1 this)
 
 -- ---- the document
 
@@ -190,17 +194,21 @@ unfolding version_in number_in
 version_reads p One = refl
 version_reads p Two = refl
 
+format_reads : (p : Position) (f : Format) → format_in p (Some (number (version_number f.version))) (Some (boolean f.hardware)) ≡ Ok f
+unfolding format_in
+format_reads p f = rw (version_reads p f.version) refl
+
 pub document_reads : (c : Contents) → IsSound c → table_of_document (document_of c) ≡ Ok (as_stated c)
 unfolding table_of_document table_of_sections document_of
 document_reads c h =
     rw (
-      version_reads top c.version,
+      format_reads top (format_of c),
       section_reads top type_members c.types,
       section_reads top (slave_members c.version c.types) c.slaves,
-      section_reads top variable_members c.variables,
+      section_reads top (variable_members c.hardware) c.variables,
       section_reads top (link_members c.slaves c.variables) c.links,
-      types_read c.version c.types h.types,
-      slaves_read c.version c.types c.slaves h.types h.slaves,
-      variables_read c.version c.variables h.variables,
-      links_read c.version c.types c.slaves c.variables c.links h.slaves h.variables h.links,
+      types_read (format_of c) c.types h.types h.format.types,
+      slaves_read (format_of c) c.types c.slaves h.types h.slaves,
+      variables_read (format_of c) c.variables h.variables (λ k w lt none. h.format.variables none k w lt),
+      links_read (format_of c) c.types c.slaves c.variables c.links h.slaves h.variables h.links,
     ) refl

@@ -1,6 +1,7 @@
 -- What a link table holds.
 use Rattle.std.specs.Prelude.{ℕ, Bool, true, false, if◌then◌else◌, List}
 use Rattle.ec_device.specs.declared.slave_type.Pdo.{Pdo}
+use Rattle.ec_table.specs.declared.rows.Format.{Format}
 use Rattle.ec_table.specs.declared.rows.Version.{Version}
 use Rattle.ec_table.specs.declared.rows.Direction.{Direction}
 use Rattle.ec_table.specs.declared.rows.Direction.TheVariants.{Out, In}
@@ -9,15 +10,21 @@ use Rattle.ec_table.specs.declared.rows.SlaveRow.{SlaveRow}
 use Rattle.ec_table.specs.declared.rows.VariableRow.{VariableRow}
 use Rattle.ec_table.specs.declared.rows.LinkRow.{LinkRow}
 
--- the value of a `Table`: its version, each section's rows in file order, and whether its slaves are full
+-- the value of a `Table`: its version, whether it is for hardware, each section's rows in file order, and whether its slaves are full
 pub record Contents : Type 0 where
   pub version : Version
+  -- whether its slaves are real devices, or behave like them: each type then says what it has of them
+  pub hardware : Bool
   pub types : List TypeRow
   pub slaves : List SlaveRow
   pub variables : List VariableRow
   pub links : List LinkRow
   -- whether its slaves are full, as common masters expect them; no text states it, so the slaves of a table that was read aren't
   pub full : Bool
+
+-- the format of its text: what its keys go by
+abbrev pub format_of : Contents → Format
+format_of c = record { version = c.version; hardware = c.hardware }
 
 -- the table with full slaves
 abbrev pub advertised_full : Contents → Contents

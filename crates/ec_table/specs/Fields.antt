@@ -15,6 +15,8 @@ use Rattle.ec_table.specs.declared.fault.Position.{Position}
 use Rattle.ec_table.specs.declared.rows.Direction.{Direction}
 use Rattle.ec_table.specs.declared.rows.Direction.TheVariants.{Out, In}
 use Rattle.ec_device.specs.declared.slave_type.Mailbox.{Mailbox}
+use Rattle.ec_device.specs.declared.hardware.ProcessManager.{ProcessManager}
+use Rattle.ec_table.specs.declared.rows.Format.{Format}
 use Rattle.ec_table.specs.declared.rows.Version.{Version}
 use Rattle.ec_table.specs.declared.rows.Version.TheVariants as versions
 use Rattle.ec_table.specs.declared.rows.LinkBits.{LinkBits}
@@ -33,34 +35,55 @@ is_name s = (nat_le 1 (length s) && nat_le (length s) 32) && list_all is_name_by
 abbrev pub viewed : Option (Bor Value) → Option Data
 viewed o = option_map (λ v. view v.now) o
 
+-- the format that has every key
+abbrev pub full_format : Format
+full_format = record { version = versions.Two; hardware = true }
+
+-- the keys that a type must have; one for hardware may leave out its revision and its starts
+abbrev pub required_of_type : (hardware : Bool) → List (List ℕ)
+required_of_type false = codes "in_start" ∷ codes "name" ∷ codes "out_start" ∷ codes "product" ∷ codes "revision" ∷ codes "vendor" ∷ []
+required_of_type true = codes "name" ∷ codes "product" ∷ codes "vendor" ∷ []
+
 -- the keys that a table of a shape must have
-abbrev pub required : Shape → List (List ℕ)
-required shape.Document = []
-required shape.Type = codes "in_start" ∷ codes "name" ∷ codes "out_start" ∷ codes "product" ∷ codes "revision" ∷ codes "vendor" ∷ []
-required shape.Pdo = codes "entries" ∷ codes "index" ∷ []
-required shape.Slave = codes "name" ∷ codes "type" ∷ []
-required shape.Variable = codes "bits" ∷ codes "dir" ∷ codes "name" ∷ []
-required shape.Link = codes "index" ∷ codes "slave" ∷ codes "sub" ∷ codes "var" ∷ []
+abbrev pub required : Shape → Format → List (List ℕ)
+required shape.Document f = []
+required shape.Type f = required_of_type f.hardware
+required shape.Pdo f = codes "entries" ∷ codes "index" ∷ []
+required shape.Slave f = codes "name" ∷ codes "type" ∷ []
+required shape.Variable f = codes "bits" ∷ codes "dir" ∷ codes "name" ∷ []
+required shape.Link f = codes "index" ∷ codes "slave" ∷ codes "sub" ∷ codes "var" ∷ []
+
+-- the keys that a type may have besides
+abbrev pub optional_of_type : (hardware : Bool) → List (List ℕ)
+optional_of_type false = codes "lrw" ∷ codes "mailbox" ∷ codes "rxpdo" ∷ codes "txpdo" ∷ []
+optional_of_type true =
+    codes "firmware" ∷ codes "fmmus" ∷ codes "in_manager" ∷ codes "in_start" ∷ codes "lrw" ∷ codes "mailbox" ∷ codes "out_manager"
+    ∷ codes "out_start" ∷ codes "revision" ∷ codes "rxpdo" ∷ codes "txpdo" ∷ []
 
 -- the keys that a slave may have besides
 abbrev pub optional_of_slave : Version → List (List ℕ)
 optional_of_slave versions.One = codes "in" ∷ codes "out" ∷ codes "serial" ∷ []
 optional_of_slave versions.Two = codes "in" ∷ codes "out" ∷ codes "serial" ∷ codes "unit" ∷ []
 
--- the keys that a table of a shape may have besides, in a version of the format
-abbrev pub optional : Shape → Version → List (List ℕ)
-optional shape.Document v = codes "link" ∷ codes "slave" ∷ codes "type" ∷ codes "variable" ∷ codes "version" ∷ []
-optional shape.Type v = codes "lrw" ∷ codes "mailbox" ∷ codes "rxpdo" ∷ codes "txpdo" ∷ []
-optional shape.Pdo v = []
-optional shape.Slave v = optional_of_slave v
-optional shape.Variable v = []
-optional shape.Link v = codes "bits" ∷ []
+-- the key that a variable may have besides
+abbrev pub optional_of_variable : (hardware : Bool) → List (List ℕ)
+optional_of_variable false = []
+optional_of_variable true = codes "signed" ∷ []
 
-abbrev pub is_key : Shape → Version → List ℕ → Bool
-is_key s v key = list_any (bytes_eq key) (required s) || list_any (bytes_eq key) (optional s v)
+-- the keys that a table of a shape may have besides
+abbrev pub optional : Shape → Format → List (List ℕ)
+optional shape.Document f = codes "hardware" ∷ codes "link" ∷ codes "slave" ∷ codes "type" ∷ codes "variable" ∷ codes "version" ∷ []
+optional shape.Type f = optional_of_type f.hardware
+optional shape.Pdo f = []
+optional shape.Slave f = optional_of_slave f.version
+optional shape.Variable f = optional_of_variable f.hardware
+optional shape.Link f = codes "bits" ∷ []
 
-abbrev pub has_required : Shape → Members → Bool
-has_required s ms = list_all (λ key. is_some (get_member key ms)) (required s)
+abbrev pub is_key : Shape → Format → List ℕ → Bool
+is_key s f key = list_any (bytes_eq key) (required s f) || list_any (bytes_eq key) (optional s f)
+
+abbrev pub has_required : Shape → Format → Members → Bool
+has_required s f ms = list_all (λ key. is_some (get_member key ms)) (required s f)
 
 -- each key passes a test
 abbrev pub each_key : (List ℕ → Bool) → Members → Bool
@@ -68,8 +91,8 @@ each_key test no_members = true
 each_key test (member key d ms) = test key && each_key test ms
 
 -- no unknown key, and none missing
-abbrev pub keys_are : Shape → Version → Members → Bool
-keys_are s v ms = each_key (is_key s v) ms && has_required s ms
+abbrev pub keys_are : Shape → Format → Members → Bool
+keys_are s f ms = each_key (is_key s f) ms && has_required s f ms
 
 abbrev pub in_range : ℕ → ℕ → ℤ → Bool
 in_range low high (pos n) = nat_le low n && nat_le n high
@@ -112,10 +135,17 @@ abbrev pub number_or_0 : Position → ℕ → Option Data → Result ℕ Fault
 number_or_0 p most None = Ok 0
 number_or_0 p most (Some d) = number_in p 0 most (Some d)
 
--- a truth value, true if it is left out
-abbrev pub truth_in : Position → Option Data → Result Bool Fault
-truth_in p None = Ok true
-truth_in p (Some d) = ok_or (as_bool d) (BadValue p)
+-- a truth value, with what it is if it is left out
+abbrev pub truth_in : Position → (left_out : Bool) → Option Data → Result Bool Fault
+truth_in p left_out None = Ok left_out
+truth_in p left_out (Some d) = ok_or (as_bool d) (BadValue p)
+
+-- the format of a document, by the values under `version` and `hardware`
+unfoldable pub format_in : Position → Option Data → Option Data → Result Format Fault
+format_in p version_written hardware_written = do
+  version ← version_in p version_written
+  hardware ← truth_in p false hardware_written
+  Ok (record { version = version; hardware = hardware })
 
 -- a test that must pass
 abbrev pub must : Bool → Fault → Result (Unit {0}) Fault
@@ -135,6 +165,24 @@ mailbox_of p d = do
 unfoldable pub mailbox_in : Position → Option Data → Result (Option Mailbox) Fault
 mailbox_in p None = Ok None
 mailbox_in p (Some d) = mailbox_of p d >>= (λ m. Ok (Some m))
+
+-- [number, control byte]
+unfoldable pub manager_of : Position → Data → Result ProcessManager Fault
+manager_of p d = do
+  number ← number_in p 0 3 (at 0 d)
+  control ← number_in p 0 255 (at 1 d)
+  _ ← must (not (is_some (at 2 d))) (BadValue p)
+  Ok (record { number = number; control = control })
+
+-- the manager of a direction, the usual one if it is left out
+unfoldable pub manager_in : Position → ProcessManager → Option Data → Result ProcessManager Fault
+manager_in p usual None = Ok usual
+manager_in p usual (Some d) = manager_of p d
+
+-- how many FMMUs there are, 4 if it is left out
+abbrev pub fmmus_in : Position → Option Data → Result ℕ Fault
+fmmus_in p None = Ok 4
+fmmus_in p (Some d) = number_in p 2 4 (Some d)
 
 -- [variable bit, entry bit, count]
 unfoldable pub link_bits_of : Position → Data → Result LinkBits Fault

@@ -1,12 +1,14 @@
 -- The keys of the tables in a document, in the order in which their values are read.
-use Rattle.std.specs.Prelude.{ℕ, Bool, true, false, List, [], ◌∷◌, map, codes, get_or}
+use Rattle.std.specs.Prelude.{ℕ, Bool, true, false, not, List, [], ◌∷◌, map, codes, get_or}
 use Rattle.std.specs.Borrow.{Bor}
 use Rattle.ec_device.specs.Types.{first_output_index, first_input_index}
+use Rattle.ec_table.specs.Fields.{full_format}
 use Rattle.ec_table.specs.Pdos.{last_output_index, last_input_index}
 use Rattle.ec_table.specs.declared.keys.Rule.{Rule}
-use Rattle.ec_table.specs.declared.keys.Rule.TheVariants.{Tables, Name, Number, Mailbox, Indices, Pdos, Index, Entries, Direction, LinkBits, Truth}
+use Rattle.ec_table.specs.declared.keys.Rule.TheVariants.{Tables, Name, Number, Mailbox, Manager, Indices, Pdos, Index, Entries, Direction, LinkBits, Truth}
 use Rattle.ec_table.specs.declared.keys.Shape.{Shape}
 use Rattle.ec_table.specs.declared.keys.Shape.TheVariants as shape
+use Rattle.ec_table.specs.declared.rows.Format.{Format}
 use Rattle.ec_table.specs.declared.rows.Version.{Version}
 use Rattle.ec_table.specs.declared.rows.Version.TheVariants as versions
 
@@ -22,44 +24,55 @@ abbrev pub unit_key : Version → List KeyRow
 unit_key versions.One = []
 unit_key versions.Two = (codes "unit", Number 0 63, false) ∷ []
 
--- the keys that a table of a shape may have in a version of the format
-abbrev pub keys_of : Shape → Version → List KeyRow
-keys_of shape.Document v =
+-- what a type says of real devices, keys of a table for hardware
+abbrev pub hardware_keys : Bool → List KeyRow
+hardware_keys false = []
+hardware_keys true = (codes "out_manager", Manager, false) ∷ (codes "in_manager", Manager, false) ∷ (codes "firmware", Truth, false) ∷ (codes "fmmus", Number 2 4, false) ∷ []
+
+-- the sign of a variable, a key of a table for hardware
+abbrev pub signed_key : Bool → List KeyRow
+signed_key false = []
+signed_key true = (codes "signed", Truth, false) ∷ []
+
+-- the keys that a table of a shape may have
+abbrev pub keys_of : Shape → Format → List KeyRow
+keys_of shape.Document f =
     (codes "version", Number 1 2, false)
+    ∷ (codes "hardware", Truth, false)
     ∷ (codes "type", Tables, false)
     ∷ (codes "slave", Tables, false)
     ∷ (codes "variable", Tables, false)
     ∷ (codes "link", Tables, false)
     ∷ []
-keys_of shape.Type v =
+keys_of shape.Type f =
     (codes "name", Name, true)
     ∷ (codes "vendor", Number 0 4294967295, true)
     ∷ (codes "product", Number 0 4294967295, true)
-    ∷ (codes "revision", Number 0 4294967295, true)
+    ∷ (codes "revision", Number 0 4294967295, not f.hardware)
     ∷ (codes "mailbox", Mailbox, false)
-    ∷ (codes "out_start", Number 0 65535, true)
-    ∷ (codes "in_start", Number 0 65535, true)
+    ∷ (codes "out_start", Number 0 65535, not f.hardware)
+    ∷ (codes "in_start", Number 0 65535, not f.hardware)
     ∷ (codes "rxpdo", Pdos first_output_index last_output_index, false)
     ∷ (codes "txpdo", Pdos first_input_index last_input_index, false)
     ∷ (codes "lrw", Truth, false)
-    ∷ []
-keys_of shape.Pdo v =
+    ∷ hardware_keys f.hardware
+keys_of shape.Pdo f =
     (codes "index", Index, true)
     ∷ (codes "entries", Entries, true)
     ∷ []
-keys_of shape.Slave v =
+keys_of shape.Slave f =
     (codes "name", Name, true)
     ∷ (codes "type", Name, true)
     ∷ (codes "out", Indices first_output_index last_output_index, false)
     ∷ (codes "in", Indices first_input_index last_input_index, false)
     ∷ (codes "serial", Number 0 4294967295, false)
-    ∷ unit_key v
-keys_of shape.Variable v =
+    ∷ unit_key f.version
+keys_of shape.Variable f =
     (codes "name", Name, true)
     ∷ (codes "dir", Direction, true)
     ∷ (codes "bits", Number 1 64, true)
-    ∷ []
-keys_of shape.Link v =
+    ∷ signed_key f.hardware
+keys_of shape.Link f =
     (codes "var", Name, true)
     ∷ (codes "slave", Name, true)
     ∷ (codes "index", Number 1 65535, true)
@@ -67,12 +80,12 @@ keys_of shape.Link v =
     ∷ (codes "bits", LinkBits, false)
     ∷ []
 
-abbrev pub names_of : Shape → Version → List (List ℕ)
-names_of s v = map (λ k. k.0) (keys_of s v)
+abbrev pub names_of : Shape → Format → List (List ℕ)
+names_of s f = map (λ k. k.0) (keys_of s f)
 
 -- what the key at a place takes; behind the last key `Tables`
 abbrev pub rule_at : Shape → ℕ → Rule
-rule_at s place = get_or (map (λ k. k.1) (keys_of s versions.Two)) place Tables
+rule_at s place = get_or (map (λ k. k.1) (keys_of s full_format)) place Tables
 
 -- the range of the number that a key takes
 abbrev pub number_range : Rule → ℕ × ℕ

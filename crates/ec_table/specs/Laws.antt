@@ -3,9 +3,12 @@ use Rattle.std.specs.Prelude.{◌≡◌, ◌≤◌, ℕ, false, List, [], ◌∷
 use Rattle.toml.specs.Data.{Data, Members, get_member}
 use Rattle.toml.specs.Parse.{parse_document}
 use Rattle.toml.specs.View.{items_of}
+use Rattle.std.specs.Option.{ForSome}
+use Rattle.ec_device.specs.declared.hardware.Hardware.{Hardware}
+use Rattle.ec_device.specs.Hardware.{usual_outputs, usual_inputs}
 use Rattle.ec_table.specs.declared.fault.Fault.{Fault}
 use Rattle.ec_table.specs.declared.fault.Fault.TheVariants.{Toml, BadKey, BadValue}
-use Rattle.ec_table.specs.declared.rows.Version.{Version}
+use Rattle.ec_table.specs.declared.rows.Format.{Format}
 use Rattle.ec_table.specs.declared.rows.Version.TheVariants.{One}
 use Rattle.ec_table.specs.declared.fault.Position.{Position}
 use Rattle.ec_table.specs.declared.fault.Section.{Section}
@@ -15,12 +18,12 @@ use Rattle.ec_table.specs.declared.rows.TypeRow.{TypeRow}
 use Rattle.ec_table.specs.declared.rows.SlaveRow.{SlaveRow}
 use Rattle.ec_table.specs.declared.rows.VariableRow.{VariableRow}
 use Rattle.ec_table.specs.declared.rows.LinkRow.{LinkRow}
-use Rattle.ec_table.specs.Contents.{Contents, as_stated, pdos_toward, assigned_toward}
+use Rattle.ec_table.specs.Contents.{Contents, format_of, as_stated, pdos_toward, assigned_toward}
 use Rattle.ec_table.specs.Sound.{IsSound, AreSlaves, IsType}
 use Rattle.ec_table.specs.Faults.{fault_position}
 use Rattle.ec_table.specs.Pdos.{indices_of}
-use Rattle.ec_table.specs.Reading.{type_at, slave_at, link_at, type_element, slave_element, variable_element, link_element, top, table_of_document, table_of}
-use Rattle.ec_table.specs.Fields.{keys_are, version_in, section_in}
+use Rattle.ec_table.specs.Reading.{type_at, slave_at, variable_at, link_at, type_element, slave_element, variable_element, link_element, top, stated_format, table_of_document, table_of}
+use Rattle.ec_table.specs.Fields.{keys_are, section_in}
 use Rattle.ec_device.specs.Objects.{bits_of, assigned_entries}
 use Rattle.ec_table.specs.Objects.{object_bits, entries_of, type_of}
 use Rattle.ec_table.specs.Writing.{document_of}
@@ -35,16 +38,16 @@ abbrev pub position_in : Section → ℕ → Option Position
 position_in s n = Some (record { section = s; element = n })
 
 pub record FaultsHaveTheirPosition : Type 0 where
-  pub types : (v : Version) (n : ℕ) (d : Data) (found : List TypeRow) (f : Fault) → type_element v n d found ≡ Err f → fault_position f ≡ position_in section.Type n
-  pub slaves : (v : Version) (ts : List TypeRow) (n : ℕ) (d : Data) (found : List SlaveRow) (f : Fault) → slave_element v ts n d found ≡ Err f → fault_position f ≡ position_in section.Slave n
-  pub variables : (v : Version) (n : ℕ) (d : Data) (found : List VariableRow) (f : Fault) → variable_element v n d found ≡ Err f → fault_position f ≡ position_in section.Variable n
-  pub links : (v : Version) (ss : List SlaveRow) (ws : List VariableRow) (n : ℕ) (d : Data) (found : List LinkRow) (f : Fault) → link_element v ss ws n d found ≡ Err f → fault_position f ≡ position_in section.Link n
+  pub types : (v : Format) (n : ℕ) (d : Data) (found : List TypeRow) (f : Fault) → type_element v n d found ≡ Err f → fault_position f ≡ position_in section.Type n
+  pub slaves : (v : Format) (ts : List TypeRow) (n : ℕ) (d : Data) (found : List SlaveRow) (f : Fault) → slave_element v ts n d found ≡ Err f → fault_position f ≡ position_in section.Slave n
+  pub variables : (v : Format) (n : ℕ) (d : Data) (found : List VariableRow) (f : Fault) → variable_element v n d found ≡ Err f → fault_position f ≡ position_in section.Variable n
+  pub links : (v : Format) (ss : List SlaveRow) (ws : List VariableRow) (n : ℕ) (d : Data) (found : List LinkRow) (f : Fault) → link_element v ss ws n d found ≡ Err f → fault_position f ≡ position_in section.Link n
 
 -- ---- element by element
 
--- a document of a version, with the elements of its sections
-pub record HasSections (ms : Members) (v : Version) (type_data slave_data variable_data link_data : List Data) : Type 0 where
-  pub version : version_in top (get_member (codes "version") ms) ≡ Ok v
+-- a document of a format, with the elements of its sections
+pub record HasSections (ms : Members) (v : Format) (type_data slave_data variable_data link_data : List Data) : Type 0 where
+  pub format : stated_format ms ≡ Ok v
   pub keys : IsTrue (keys_are shape.Document v ms)
   pub types : section_in top (get_member (codes "type") ms) ≡ Ok (items_of type_data)
   pub slaves : section_in top (get_member (codes "slave") ms) ≡ Ok (items_of slave_data)
@@ -58,37 +61,37 @@ pub record EachReads {X : Type 0} (row : ℕ → Data → List X → Result X Fa
 
 -- all elements of a table pass their tests
 pub record AllRead (type_data slave_data variable_data link_data : List Data) (c : Contents) : Type 0 where
-  pub types : EachReads (type_element c.version) type_data c.types
-  pub slaves : EachReads (slave_element c.version c.types) slave_data c.slaves
-  pub variables : EachReads (variable_element c.version) variable_data c.variables
-  pub links : EachReads (link_element c.version c.slaves c.variables) link_data c.links
+  pub types : EachReads (type_element (format_of c)) type_data c.types
+  pub slaves : EachReads (slave_element (format_of c) c.types) slave_data c.slaves
+  pub variables : EachReads (variable_element (format_of c)) variable_data c.variables
+  pub links : EachReads (link_element (format_of c) c.slaves c.variables) link_data c.links
 
 -- A document whose every element passes its own tests is accepted.
 abbrev pub AcceptedElementByElement : Type 0
-AcceptedElementByElement = (ms : Members) (types slaves variables links : List Data) (c : Contents) → HasSections ms c.version types slaves variables links → AllRead types slaves variables links c → table_of_document ms ≡ Ok (as_stated c)
+AcceptedElementByElement = (ms : Members) (types slaves variables links : List Data) (c : Contents) → HasSections ms (format_of c) types slaves variables links → AllRead types slaves variables links c → table_of_document ms ≡ Ok (as_stated c)
 
 -- The fault of a table is that of the first element, in order, that fails a test: all types before it pass, then all types and all slaves before it, and so on.
 pub record FirstFaultIsReturned : Type 0 where
-  pub types : (ms : Members) (v : Version) (before : List Data) (d : Data) (after slaves variables links : List Data) (ts : List TypeRow) (f : Fault) → HasSections ms v (before ++ d ∷ after) slaves variables links
+  pub types : (ms : Members) (v : Format) (before : List Data) (d : Data) (after slaves variables links : List Data) (ts : List TypeRow) (f : Fault) → HasSections ms v (before ++ d ∷ after) slaves variables links
       → EachReads (type_element v) before ts → type_element v (length before) d ts ≡ Err f → table_of_document ms ≡ Err f
-  pub slaves : (ms : Members) (v : Version) (types before : List Data) (d : Data) (after variables links : List Data) (ts : List TypeRow) (ss : List SlaveRow) (f : Fault) → HasSections ms v types (before ++ d ∷ after) variables links
+  pub slaves : (ms : Members) (v : Format) (types before : List Data) (d : Data) (after variables links : List Data) (ts : List TypeRow) (ss : List SlaveRow) (f : Fault) → HasSections ms v types (before ++ d ∷ after) variables links
       → EachReads (type_element v) types ts → EachReads (slave_element v ts) before ss → slave_element v ts (length before) d ss ≡ Err f → table_of_document ms ≡ Err f
-  pub variables : (ms : Members) (v : Version) (types slaves before : List Data) (d : Data) (after links : List Data) (ts : List TypeRow) (ss : List SlaveRow) (ws : List VariableRow) (f : Fault) → HasSections ms v types slaves (before ++ d ∷ after) links
+  pub variables : (ms : Members) (v : Format) (types slaves before : List Data) (d : Data) (after links : List Data) (ts : List TypeRow) (ss : List SlaveRow) (ws : List VariableRow) (f : Fault) → HasSections ms v types slaves (before ++ d ∷ after) links
       → EachReads (type_element v) types ts → EachReads (slave_element v ts) slaves ss → EachReads (variable_element v) before ws → variable_element v (length before) d ws ≡ Err f → table_of_document ms ≡ Err f
-  pub links : (ms : Members) (v : Version) (types slaves variables before : List Data) (d : Data) (after : List Data) (ts : List TypeRow) (ss : List SlaveRow) (ws : List VariableRow) (ls : List LinkRow) (f : Fault) → HasSections ms v types slaves variables (before ++ d ∷ after)
+  pub links : (ms : Members) (v : Format) (types slaves variables before : List Data) (d : Data) (after : List Data) (ts : List TypeRow) (ss : List SlaveRow) (ws : List VariableRow) (ls : List LinkRow) (f : Fault) → HasSections ms v types slaves variables (before ++ d ∷ after)
       → EachReads (type_element v) types ts → EachReads (slave_element v ts) slaves ss → EachReads (variable_element v) variables ws → EachReads (link_element v ss ws) before ls → link_element v ss ws (length before) d ls ≡ Err f → table_of_document ms ≡ Err f
 
 -- ---- the document itself
 
--- The faults of a document that come before those of its elements, in this order: the text is no TOML, a bad version, a bad key, a section that is no array of tables.
+-- The faults of a document that come before those of its elements, in this order: the text is no TOML, a bad `version` or `hardware`, a bad key, a section that is no array of tables.
 pub record DocumentFaultsInOrder : Type 0 where
   pub text : (text : List ℕ) → parse_document text ≡ None → table_of text ≡ Err Toml
-  pub version : (ms : Members) (f : Fault) → version_in top (get_member (codes "version") ms) ≡ Err f → table_of_document ms ≡ Err (BadValue top)
-  pub keys : (ms : Members) (v : Version) → version_in top (get_member (codes "version") ms) ≡ Ok v → keys_are shape.Document v ms ≡ false → table_of_document ms ≡ Err (BadKey top)
-  pub types : (ms : Members) (v : Version) (f : Fault) → version_in top (get_member (codes "version") ms) ≡ Ok v → IsTrue (keys_are shape.Document v ms) → section_in top (get_member (codes "type") ms) ≡ Err f → table_of_document ms ≡ Err (BadValue top)
-  pub slaves : (ms : Members) (v : Version) (f : Fault) → version_in top (get_member (codes "version") ms) ≡ Ok v → IsTrue (keys_are shape.Document v ms) → section_in top (get_member (codes "slave") ms) ≡ Err f → table_of_document ms ≡ Err (BadValue top)
-  pub variables : (ms : Members) (v : Version) (f : Fault) → version_in top (get_member (codes "version") ms) ≡ Ok v → IsTrue (keys_are shape.Document v ms) → section_in top (get_member (codes "variable") ms) ≡ Err f → table_of_document ms ≡ Err (BadValue top)
-  pub links : (ms : Members) (v : Version) (f : Fault) → version_in top (get_member (codes "version") ms) ≡ Ok v → IsTrue (keys_are shape.Document v ms) → section_in top (get_member (codes "link") ms) ≡ Err f → table_of_document ms ≡ Err (BadValue top)
+  pub format : (ms : Members) (f : Fault) → stated_format ms ≡ Err f → table_of_document ms ≡ Err (BadValue top)
+  pub keys : (ms : Members) (v : Format) → stated_format ms ≡ Ok v → keys_are shape.Document v ms ≡ false → table_of_document ms ≡ Err (BadKey top)
+  pub types : (ms : Members) (v : Format) (f : Fault) → stated_format ms ≡ Ok v → IsTrue (keys_are shape.Document v ms) → section_in top (get_member (codes "type") ms) ≡ Err f → table_of_document ms ≡ Err (BadValue top)
+  pub slaves : (ms : Members) (v : Format) (f : Fault) → stated_format ms ≡ Ok v → IsTrue (keys_are shape.Document v ms) → section_in top (get_member (codes "slave") ms) ≡ Err f → table_of_document ms ≡ Err (BadValue top)
+  pub variables : (ms : Members) (v : Format) (f : Fault) → stated_format ms ≡ Ok v → IsTrue (keys_are shape.Document v ms) → section_in top (get_member (codes "variable") ms) ≡ Err f → table_of_document ms ≡ Err (BadValue top)
+  pub links : (ms : Members) (v : Format) (f : Fault) → stated_format ms ≡ Ok v → IsTrue (keys_are shape.Document v ms) → section_in top (get_member (codes "link") ms) ≡ Err f → table_of_document ms ≡ Err (BadValue top)
 
 -- ---- what is left out
 
@@ -96,12 +99,23 @@ pub record DocumentFaultsInOrder : Type 0 where
 abbrev pub LeavesOut : Members → List ℕ → Type 0
 LeavesOut ms key = get_member key ms ≡ None
 
+-- a type for hardware has then the usual managers, firmware, four FMMUs, any revision, and starts of 0
+pub record HardwareDefaults (ms : Members) (t : TypeRow) (h : Hardware) : Type 0 where
+  pub out_manager : LeavesOut ms (codes "out_manager") → h.out_manager ≡ usual_outputs
+  pub in_manager : LeavesOut ms (codes "in_manager") → h.in_manager ≡ usual_inputs
+  pub firmware : LeavesOut ms (codes "firmware") → IsTrue h.has_firmware
+  pub fmmus : LeavesOut ms (codes "fmmus") → h.fmmus ≡ 4
+  pub revision : LeavesOut ms (codes "revision") → IsTrue h.any_revision
+  pub out_start : LeavesOut ms (codes "out_start") → t.process.out_start ≡ 0
+  pub in_start : LeavesOut ms (codes "in_start") → t.process.in_start ≡ 0
+
 -- a type has then no mailbox, no PDOs of the direction, and takes part in LRW datagrams
 pub record TypeDefaults (ms : Members) (t : TypeRow) : Type 0 where
   pub mailbox : LeavesOut ms (codes "mailbox") → t.mailbox ≡ None
   pub outputs : LeavesOut ms (codes "rxpdo") → t.process.outputs ≡ []
   pub inputs : LeavesOut ms (codes "txpdo") → t.process.inputs ≡ []
   pub lrw : LeavesOut ms (codes "lrw") → IsTrue t.lrw
+  pub hardware : ForSome t.hardware (HardwareDefaults ms t)
 
 -- a slave assigns then all PDOs of its type in order, has serial number 0 and is in sync unit 0
 pub record SlaveDefaults (ts : List TypeRow) (ms : Members) (s : SlaveRow) : Type 0 where
@@ -114,9 +128,14 @@ pub record SlaveDefaults (ts : List TypeRow) (ms : Members) (s : SlaveRow) : Typ
 pub record LinkDefaults (ws : List VariableRow) (ms : Members) (l : LinkRow) : Type 0 where
   pub bits : LeavesOut ms (codes "bits") → (w : VariableRow) → slice_get ws l.variable ≡ Some w → l.bits ≡ record { variable_bit = 0; entry_bit = 0; count = w.bits }
 
--- a document is then of version 1, and the section has no rows; its slaves are never full, since no key says so
+-- a variable has then no sign
+pub record VariableDefaults (ms : Members) (w : VariableRow) : Type 0 where
+  pub signed : LeavesOut ms (codes "signed") → w.signed ≡ false
+
+-- a document is then of version 1 and not for hardware, and the section has no rows; its slaves are never full, since no key says so
 pub record DocumentDefaults (ms : Members) (c : Contents) : Type 0 where
   pub version : LeavesOut ms (codes "version") → c.version ≡ One
+  pub hardware : LeavesOut ms (codes "hardware") → c.hardware ≡ false
   pub types : LeavesOut ms (codes "type") → c.types ≡ []
   pub slaves : LeavesOut ms (codes "slave") → c.slaves ≡ []
   pub variables : LeavesOut ms (codes "variable") → c.variables ≡ []
@@ -125,9 +144,10 @@ pub record DocumentDefaults (ms : Members) (c : Contents) : Type 0 where
 
 -- What an accepted element or document leaves out has its default.
 pub record LeftOutIsDefault : Type 0 where
-  pub types : (v : Version) (p : Position) (ms : Members) (found : List TypeRow) (t : TypeRow) → type_at v p ms found ≡ Ok t → TypeDefaults ms t
-  pub slaves : (v : Version) (ts : List TypeRow) (p : Position) (ms : Members) (found : List SlaveRow) (s : SlaveRow) → slave_at v ts p ms found ≡ Ok s → SlaveDefaults ts ms s
-  pub links : (v : Version) (ss : List SlaveRow) (ws : List VariableRow) (p : Position) (ms : Members) (l : LinkRow) → link_at v ss ws p ms ≡ Ok l → LinkDefaults ws ms l
+  pub types : (v : Format) (p : Position) (ms : Members) (found : List TypeRow) (t : TypeRow) → type_at v p ms found ≡ Ok t → TypeDefaults ms t
+  pub slaves : (v : Format) (ts : List TypeRow) (p : Position) (ms : Members) (found : List SlaveRow) (s : SlaveRow) → slave_at v ts p ms found ≡ Ok s → SlaveDefaults ts ms s
+  pub variables : (v : Format) (p : Position) (ms : Members) (found : List VariableRow) (w : VariableRow) → variable_at v p ms found ≡ Ok w → VariableDefaults ms w
+  pub links : (v : Format) (ss : List SlaveRow) (ws : List VariableRow) (p : Position) (ms : Members) (l : LinkRow) → link_at v ss ws p ms ≡ Ok l → LinkDefaults ws ms l
   pub documents : (ms : Members) (c : Contents) → table_of_document ms ≡ Ok c → DocumentDefaults ms c
 
 -- ---- written out

@@ -1,5 +1,5 @@
 -- To be believed, in this order: what a table holds (Contents), and how a text is read as one (Fields, Names, Pdos, Reading, with
--- the faults and their order: Faults, InOrder), and what a table says of a slave or a link (Objects).
+-- the faults and their order: Faults, InOrder), and what a table says of a slave or a link (Objects) or of a value (Numbers).
 pub mod Contents
 pub mod Errors
 pub mod Faults
@@ -10,6 +10,7 @@ pub mod InOrder
 pub mod Pdos
 pub mod Reading
 pub mod Objects
+pub mod Numbers
 -- Laws: other words for these definitions, which laws tie to them: what every table keeps, the document of a table, and the laws.
 pub mod Sound
 pub mod Writing

@@ -1,11 +1,12 @@
 -- What a table says of one slave or one link: its type, its identity, its face if it is full, and the entries of the PDOs that it assigns (ETG.1000.6, "Object dictionary").
-use Rattle.std.specs.Prelude.{ℕ, ◌+◌, ◌==◌, if◌then◌else◌, List, [], length, Option, Some, None, slice_get, option_map, option_and_then}
+use Rattle.std.specs.Prelude.{ℕ, ◌+◌, ◌==◌, if◌then◌else◌, List, [], length, Option, Some, None, is_none, slice_get, option_map, option_and_then}
 use Rattle.std.specs.List.{flat_map}
 use Rattle.std.specs.Option.{option_map_or}
 use Rattle.ec_device.specs.declared.slave_type.Entry.{Entry}
 use Rattle.ec_device.specs.declared.slave_type.Identity.{Identity}
 use Rattle.ec_device.specs.declared.slave_type.Face.{Face}
 use Rattle.ec_device.specs.Types.{SlaveKind, device_identity}
+use Rattle.ec_device.specs.Hardware.{other_name}
 use Rattle.ec_device.specs.Objects.{ObjectBit, entry_bits, assigned_entries}
 use Rattle.ec_table.specs.declared.rows.Direction.{Direction}
 use Rattle.ec_table.specs.declared.rows.TypeRow.{TypeRow}
@@ -29,26 +30,31 @@ slave_of c l = option_and_then (λ (r : LinkRow). slice_get c.slaves r.slave) (s
 abbrev pub identity_of : Contents → ℕ → Option Identity
 identity_of c s = option_and_then (λ (r : SlaveRow). option_map (λ (t : TypeRow). device_identity t.device r.serial) (slice_get c.types r.type_index)) (slice_get c.slaves s)
 
--- a type as its slaves have it if they are not full
+-- a type as its slaves have it if they are not full; outputs that are pins lie elsewhere inside a slave
 abbrev pub kind_of_type : TypeRow → SlaveKind
 kind_of_type t = record {
   device = t.device;
   mailbox = t.mailbox;
-  out_start = t.process.out_start;
+  out_start = other_name t.hardware t.process.out_start;
   in_start = t.process.in_start;
   outputs = t.process.outputs;
   inputs = t.process.inputs;
   lrw = t.lrw;
   face = None;
+  hardware = t.hardware;
 }
 
 -- the face of slave s, of that type, if it is full: the name of its type, and whether it is the last of its ring
 abbrev pub face_of : Contents → ℕ → TypeRow → Face
 face_of c s t = record { name = t.name; is_last = s + 1 == length c.slaves }
 
--- slave s, of that type: it has a face if the table's slaves are full
+-- that face, but none of a type that says what it has of real devices: its slaves are never full
+abbrev pub face_shown : Contents → ℕ → TypeRow → Option Face
+face_shown c s t = if is_none t.hardware then Some (face_of c s t) else None
+
+-- slave s, of that type: it may have a face if the table's slaves are full
 abbrev pub kind_at : Contents → ℕ → TypeRow → SlaveKind
-kind_at c s t = record (kind_of_type t) { face = if c.full then Some (face_of c s t) else None }
+kind_at c s t = record (kind_of_type t) { face = if c.full then face_shown c s t else None }
 
 -- the type of slave s, as a slave has it
 abbrev pub kind_of : Contents → ℕ → Option SlaveKind

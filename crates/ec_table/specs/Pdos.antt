@@ -8,9 +8,8 @@ use Rattle.ec_table.specs.declared.fault.Fault.TheVariants.{BadValue}
 use Rattle.ec_table.specs.declared.fault.Position.{Position}
 use Rattle.ec_device.specs.declared.slave_type.Entry.{Entry}
 use Rattle.ec_device.specs.declared.slave_type.Pdo.{Pdo}
-use Rattle.ec_table.specs.declared.rows.Version.TheVariants as versions
 use Rattle.ec_table.specs.declared.keys.Shape.TheVariants as shape
-use Rattle.ec_table.specs.Fields.{◌>>=◌, must, keys_are, number_in}
+use Rattle.ec_table.specs.Fields.{◌>>=◌, must, full_format, keys_are, number_in}
 use Rattle.ec_table.specs.InOrder.{members_in, rows_after}
 
 -- [index, subindex, bits]; a gap has index and subindex 0
@@ -42,7 +41,7 @@ module _ {X : Type 0} (row : ℕ → Data → List X → Result X Fault) where
 -- a table of just `index` and `entries`
 unfoldable pub pdo_of : Position → ℕ → ℕ → Members → Result Pdo Fault
 pdo_of p low high ms = do
-  _ ← must (keys_are shape.Pdo versions.One ms) (BadValue p)
+  _ ← must (keys_are shape.Pdo full_format ms) (BadValue p)
   index ← number_in p low high (get_member (codes "index") ms)
   entries ← array_in (entry_row p) p 64 (get_member (codes "entries") ms)
   Ok (record { index = index; entries = entries })

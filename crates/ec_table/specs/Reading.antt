@@ -1,5 +1,5 @@
 -- The elements of the sections, in the order of their tests: keys, values key by key, doubles, references.
-use Rattle.std.specs.Prelude.{List, [], ℕ, Option, ◌==◌, Bool, false, not, ◌&&◌, ◌||◌, codes, is_some, unwrap_or, slice_get, Result, Ok}
+use Rattle.std.specs.Prelude.{List, [], ℕ, Option, Some, None, ◌==◌, ◌%◌, Bool, true, false, not, nat_le, ◌&&◌, ◌||◌, codes, is_some, is_none, unwrap_or, slice_get, Result, Ok}
 use Rattle.std.specs.List.{list_any, list_all}
 use Rattle.std.specs.Str.{bytes_eq}
 use Rattle.std.specs.Option.{ok_or}
@@ -9,8 +9,11 @@ use Rattle.ec_table.specs.declared.fault.Fault.{Fault}
 use Rattle.ec_table.specs.declared.fault.Fault.TheVariants.{Toml, BadKey, BadValue, TwiceNamed, UnknownName}
 use Rattle.ec_table.specs.declared.fault.Position.{Position}
 use Rattle.ec_table.specs.declared.fault.Section.TheVariants as section
-use Rattle.ec_table.specs.declared.rows.Version.{Version}
+use Rattle.ec_table.specs.declared.rows.Format.{Format}
 use Rattle.ec_device.specs.declared.slave_type.Device.{Device}
+use Rattle.ec_device.specs.declared.slave_type.Mailbox.{Mailbox}
+use Rattle.ec_device.specs.declared.hardware.Hardware.{Hardware}
+use Rattle.ec_device.specs.Hardware.{usual_outputs, usual_inputs, are_pins}
 use Rattle.ec_device.specs.Types.{first_output_index, first_input_index}
 use Rattle.ec_table.specs.declared.rows.ProcessData.{ProcessData}
 use Rattle.ec_table.specs.declared.rows.TypeRow.{TypeRow}
@@ -24,23 +27,23 @@ use Rattle.ec_table.specs.Contents.{Contents}
 use Rattle.ec_table.specs.InOrder.{members_in, rows_after}
 use Rattle.ec_table.specs.Names.{is_named, index_named}
 use Rattle.ec_table.specs.Pdos.{last_output_index, last_input_index, pdos_in, indices_of, has_twice, numbers_in}
-use Rattle.ec_table.specs.Fields.{◌>>=◌, must, keys_are, name_in, direction_in, mailbox_in, section_in, number_in, number_or_0, truth_in, version_in, link_bits_in}
+use Rattle.ec_table.specs.Fields.{◌>>=◌, must, keys_are, name_in, direction_in, mailbox_in, section_in, number_in, number_or_0, truth_in, format_in, manager_in, fmmus_in, link_bits_in}
 
 -- ---- types
 
--- vendor, product and revision, by the values under their keys
+-- vendor, product and revision, by the values under their keys; a revision that is left out is 0
 unfoldable pub device_in : Position → Option Data → Option Data → Option Data → Result Device Fault
 device_in p vendor_written product_written revision_written = do
   vendor ← number_in p 0 4294967295 vendor_written
   product ← number_in p 0 4294967295 product_written
-  revision ← number_in p 0 4294967295 revision_written
+  revision ← number_or_0 p 4294967295 revision_written
   Ok (record { vendor = vendor; product = product; revision = revision })
 
--- where the process data begin, and their objects, by the values under `out_start`, `in_start`, `rxpdo` and `txpdo`
+-- where the process data begin, 0 if it is left out, and their objects, by the values under `out_start`, `in_start`, `rxpdo` and `txpdo`
 unfoldable pub process_in : Position → Option Data → Option Data → Option Data → Option Data → Result ProcessData Fault
 process_in p out_written in_written rxpdo txpdo = do
-  out_start ← number_in p 0 65535 out_written
-  in_start ← number_in p 0 65535 in_written
+  out_start ← number_or_0 p 65535 out_written
+  in_start ← number_or_0 p 65535 in_written
   outputs ← pdos_in p first_output_index last_output_index rxpdo
   inputs ← pdos_in p first_input_index last_input_index txpdo
   Ok (record { out_start = out_start; in_start = in_start; outputs = outputs; inputs = inputs })
@@ -49,27 +52,68 @@ process_in p out_written in_written rxpdo txpdo = do
 abbrev pub process_twice : ProcessData → Bool
 process_twice d = has_twice (indices_of d.outputs) || has_twice (indices_of d.inputs)
 
+-- what a type for hardware says of real devices, by the values under `out_manager`, `in_manager`, `firmware`, `fmmus` and `revision`:
+-- also whether its outputs begin at the pins, and whether any revision fits
+unfoldable pub described : Position → ProcessData → Option Data → Option Data → Option Data → Option Data → Option Data → Result Hardware Fault
+described p process out_written in_written firmware_written fmmus_written revision_written = do
+  out_manager ← manager_in p usual_outputs out_written
+  in_manager ← manager_in p usual_inputs in_written
+  has_firmware ← truth_in p true firmware_written
+  fmmus ← fmmus_in p fmmus_written
+  Ok (record {
+    out_manager = out_manager;
+    in_manager = in_manager;
+    has_pins = are_pins process.out_start;
+    has_firmware = has_firmware;
+    fmmus = fmmus;
+    any_revision = is_none revision_written;
+  })
+
+-- a type of another table says nothing of them
+abbrev pub described_if : (hardware : Bool) → Result Hardware Fault → Result (Option Hardware) Fault
+described_if false read = Ok None
+described_if true read = read >>= (λ h. Ok (Some h))
+
+abbrev pub hardware_in : Format → Position → ProcessData → Members → Result (Option Hardware) Fault
+hardware_in f p process ms =
+    described_if f.hardware (described p process (get_member (codes "out_manager") ms) (get_member (codes "in_manager") ms)
+    (get_member (codes "firmware") ms) (get_member (codes "fmmus") ms) (get_member (codes "revision") ms))
+
+-- whether a device can be so: each direction has a manager of its own and of its mode, and a mailbox has managers 0 and 1 and firmware
+abbrev pub can_be : Option Mailbox → Hardware → Bool
+can_be mailbox h =
+    not (h.out_manager.number == h.in_manager.number)
+    && ((h.out_manager.control % 16 == 4) && (h.in_manager.control % 16 == 0))
+    && (is_none mailbox || (nat_le 2 h.out_manager.number && (nat_le 2 h.in_manager.number && h.has_firmware)))
+
+-- a type that says nothing can
+abbrev pub is_possible : Option Mailbox → Option Hardware → Bool
+is_possible mailbox None = true
+is_possible mailbox (Some h) = can_be mailbox h
+
 -- the type of this name that an element states; whether another type has the name
-unfoldable pub type_named : Position → Members → List ℕ → Bool → Result TypeRow Fault
-type_named p ms name is_taken = do
+unfoldable pub type_named : Format → Position → Members → List ℕ → Bool → Result TypeRow Fault
+type_named f p ms name is_taken = do
   device ← device_in p (get_member (codes "vendor") ms) (get_member (codes "product") ms) (get_member (codes "revision") ms)
   mailbox ← mailbox_in p (get_member (codes "mailbox") ms)
   process ← process_in p (get_member (codes "out_start") ms) (get_member (codes "in_start") ms) (get_member (codes "rxpdo") ms) (get_member (codes "txpdo") ms)
-  lrw ← truth_in p (get_member (codes "lrw") ms)
+  lrw ← truth_in p true (get_member (codes "lrw") ms)
+  hardware ← hardware_in f p process ms
   _ ← must (not (is_taken || process_twice process)) (TwiceNamed p)
-  Ok (record { name = name; device = device; mailbox = mailbox; process = process; lrw = lrw })
+  _ ← must (is_possible mailbox hardware) (BadValue p)
+  Ok (record { name = name; device = device; mailbox = mailbox; process = process; lrw = lrw; hardware = hardware })
 
 -- the type that an element states, after those found
-unfoldable pub type_at : Version → Position → Members → List TypeRow → Result TypeRow Fault
-type_at v p ms found = do
-  _ ← must (keys_are shape.Type v ms) (BadKey p)
+unfoldable pub type_at : Format → Position → Members → List TypeRow → Result TypeRow Fault
+type_at f p ms found = do
+  _ ← must (keys_are shape.Type f ms) (BadKey p)
   name ← name_in p (get_member (codes "name") ms)
-  type_named p ms name (is_named (λ (t : TypeRow). t.name) name found)
+  type_named f p ms name (is_named (λ (t : TypeRow). t.name) name found)
 
-abbrev pub type_element : Version → ℕ → Data → List TypeRow → Result TypeRow Fault
-type_element v n d found =
+abbrev pub type_element : Format → ℕ → Data → List TypeRow → Result TypeRow Fault
+type_element f n d found =
     let p : Position = record { section = section.Type; element = n } in
-    members_in p d >>= (λ ms. type_at v p ms found)
+    members_in p d >>= (λ ms. type_at f p ms found)
 
 -- ---- slaves
 
@@ -105,38 +149,39 @@ slave_named types p ms name is_taken = do
   slave_of_type types p name type_name (record { outputs = outputs; inputs = inputs; serial = serial; unit = unit })
 
 -- the slave that an element states, after those found
-unfoldable pub slave_at : Version → List TypeRow → Position → Members → List SlaveRow → Result SlaveRow Fault
-slave_at v types p ms found = do
-  _ ← must (keys_are shape.Slave v ms) (BadKey p)
+unfoldable pub slave_at : Format → List TypeRow → Position → Members → List SlaveRow → Result SlaveRow Fault
+slave_at f types p ms found = do
+  _ ← must (keys_are shape.Slave f ms) (BadKey p)
   name ← name_in p (get_member (codes "name") ms)
   slave_named types p ms name (is_named (λ (s : SlaveRow). s.name) name found)
 
-abbrev pub slave_element : Version → List TypeRow → ℕ → Data → List SlaveRow → Result SlaveRow Fault
-slave_element v types n d found =
+abbrev pub slave_element : Format → List TypeRow → ℕ → Data → List SlaveRow → Result SlaveRow Fault
+slave_element f types n d found =
     let p : Position = record { section = section.Slave; element = n } in
-    members_in p d >>= (λ ms. slave_at v types p ms found)
+    members_in p d >>= (λ ms. slave_at f types p ms found)
 
 -- ---- variables
 
--- the variable of this name, if no other has it, by the values under `dir` and `bits`
-abbrev pub variable_named : Position → Option Data → Option Data → List ℕ → Bool → Result VariableRow Fault
-variable_named p dir bits_written name is_taken = do
+-- the variable of this name, if no other has it, by the values under `dir`, `bits` and `signed`
+abbrev pub variable_named : Position → Option Data → Option Data → Option Data → List ℕ → Bool → Result VariableRow Fault
+variable_named p dir bits_written signed_written name is_taken = do
   direction ← direction_in p dir
   bits ← number_in p 1 64 bits_written
+  signed ← truth_in p false signed_written
   _ ← must (not is_taken) (TwiceNamed p)
-  Ok (record { name = name; direction = direction; bits = bits })
+  Ok (record { name = name; direction = direction; bits = bits; signed = signed })
 
 -- the variable that an element states, after those found
-unfoldable pub variable_at : Version → Position → Members → List VariableRow → Result VariableRow Fault
-variable_at v p ms found = do
-  _ ← must (keys_are shape.Variable v ms) (BadKey p)
+unfoldable pub variable_at : Format → Position → Members → List VariableRow → Result VariableRow Fault
+variable_at f p ms found = do
+  _ ← must (keys_are shape.Variable f ms) (BadKey p)
   name ← name_in p (get_member (codes "name") ms)
-  variable_named p (get_member (codes "dir") ms) (get_member (codes "bits") ms) name (is_named (λ (w : VariableRow). w.name) name found)
+  variable_named p (get_member (codes "dir") ms) (get_member (codes "bits") ms) (get_member (codes "signed") ms) name (is_named (λ (w : VariableRow). w.name) name found)
 
-abbrev pub variable_element : Version → ℕ → Data → List VariableRow → Result VariableRow Fault
-variable_element v n d found =
+abbrev pub variable_element : Format → ℕ → Data → List VariableRow → Result VariableRow Fault
+variable_element f n d found =
     let p : Position = record { section = section.Variable; element = n } in
-    members_in p d >>= (λ ms. variable_at v p ms found)
+    members_in p d >>= (λ ms. variable_at f p ms found)
 
 -- ---- links
 
@@ -145,9 +190,9 @@ abbrev pub all_bits : VariableRow → LinkBits
 all_bits w = record { variable_bit = 0; entry_bit = 0; count = w.bits }
 
 -- the link that an element states; left out, `bits` are all of the variable's
-unfoldable pub link_at : Version → List SlaveRow → List VariableRow → Position → Members → Result LinkRow Fault
-link_at v slaves variables p ms = do
-  _ ← must (keys_are shape.Link v ms) (BadKey p)
+unfoldable pub link_at : Format → List SlaveRow → List VariableRow → Position → Members → Result LinkRow Fault
+link_at f slaves variables p ms = do
+  _ ← must (keys_are shape.Link f ms) (BadKey p)
   variable_name ← name_in p (get_member (codes "var") ms)
   slave_name ← name_in p (get_member (codes "slave") ms)
   index ← number_in p 1 65535 (get_member (codes "index") ms)
@@ -158,10 +203,10 @@ link_at v slaves variables p ms = do
   slave ← ok_or (index_named (λ (s : SlaveRow). s.name) slave_name slaves) (UnknownName p)
   Ok (record { variable = variable; slave = slave; index = index; subindex = subindex; bits = unwrap_or bits (all_bits w) })
 
-abbrev pub link_element : Version → List SlaveRow → List VariableRow → ℕ → Data → List LinkRow → Result LinkRow Fault
-link_element v slaves variables n d found =
+abbrev pub link_element : Format → List SlaveRow → List VariableRow → ℕ → Data → List LinkRow → Result LinkRow Fault
+link_element f slaves variables n d found =
     let p : Position = record { section = section.Link; element = n } in
-    members_in p d >>= (λ ms. link_at v slaves variables p ms)
+    members_in p d >>= (λ ms. link_at f slaves variables p ms)
 
 -- ---- the document
 
@@ -169,24 +214,28 @@ abbrev pub top : Position
 top = record { section = section.Top; element = 0 }
 
 -- the table that the elements of the sections state
-unfoldable pub table_of_sections : Version → Items → Items → Items → Items → Result Contents Fault
-table_of_sections version type_items slave_items variable_items link_items = do
-  types ← rows_after (type_element version) [] 0 type_items
-  slaves ← rows_after (slave_element version types) [] 0 slave_items
-  variables ← rows_after (variable_element version) [] 0 variable_items
-  links ← rows_after (link_element version slaves variables) [] 0 link_items
-  Ok (record { version = version; types = types; slaves = slaves; variables = variables; links = links; full = false })
+unfoldable pub table_of_sections : Format → Items → Items → Items → Items → Result Contents Fault
+table_of_sections format type_items slave_items variable_items link_items = do
+  types ← rows_after (type_element format) [] 0 type_items
+  slaves ← rows_after (slave_element format types) [] 0 slave_items
+  variables ← rows_after (variable_element format) [] 0 variable_items
+  links ← rows_after (link_element format slaves variables) [] 0 link_items
+  Ok (record { version = format.version; hardware = format.hardware; types = types; slaves = slaves; variables = variables; links = links; full = false })
 
--- the table that a document states: its version, its keys, its sections, then each section's elements
+-- the format of a document
+abbrev pub stated_format : Members → Result Format Fault
+stated_format ms = format_in top (get_member (codes "version") ms) (get_member (codes "hardware") ms)
+
+-- the table that a document states: its format, its keys, its sections, then each section's elements
 unfoldable pub table_of_document : Members → Result Contents Fault
 table_of_document ms = do
-  version ← version_in top (get_member (codes "version") ms)
-  _ ← must (keys_are shape.Document version ms) (BadKey top)
+  format ← stated_format ms
+  _ ← must (keys_are shape.Document format ms) (BadKey top)
   type_items ← section_in top (get_member (codes "type") ms)
   slave_items ← section_in top (get_member (codes "slave") ms)
   variable_items ← section_in top (get_member (codes "variable") ms)
   link_items ← section_in top (get_member (codes "link") ms)
-  table_of_sections version type_items slave_items variable_items link_items
+  table_of_sections format type_items slave_items variable_items link_items
 
 -- the table that a text states
 unfoldable pub table_of : List ℕ → Result Contents Fault

@@ -1,10 +1,12 @@
 -- What each table that was read keeps.
-use Rattle.std.specs.Prelude.{◌≡◌, ◌≢◌, ℕ, ◌<◌, ◌≤◌, List, length, Option, Some, None, All, AllPairs, Contains, IsTrue, slice_get}
+use Rattle.std.specs.Prelude.{◌≡◌, ◌≢◌, ℕ, ◌<◌, ◌≤◌, List, length, Option, Some, None, All, AllPairs, Contains, IsTrue, false, is_some, slice_get}
 use Rattle.std.specs.Option.{ForSome}
 use Rattle.ec_device.specs.declared.slave_type.Entry.{Entry}
 use Rattle.ec_device.specs.declared.slave_type.Pdo.{Pdo}
 use Rattle.ec_device.specs.declared.slave_type.Mailbox.{Mailbox}
 use Rattle.ec_device.specs.declared.slave_type.Device.{Device}
+use Rattle.ec_device.specs.declared.hardware.Hardware.{Hardware}
+use Rattle.ec_device.specs.Hardware.{IsHardware, are_pins}
 use Rattle.ec_device.specs.Types.{IsWithinLimits, first_output_index, first_input_index}
 use Rattle.ec_table.specs.declared.rows.Version.{Version}
 use Rattle.ec_table.specs.declared.rows.Version.TheVariants.{One}
@@ -49,6 +51,12 @@ abbrev pub first_index : Direction → ℕ
 first_index Out = first_output_index
 first_index In = first_input_index
 
+-- What a type says of real devices: its outputs are pins if they begin there, and a revision that is left out is 0.
+pub record IsDescribed (t : TypeRow) (h : Hardware) : Type 0 where
+  pub limits : IsHardware t.mailbox h
+  pub pins : h.has_pins ≡ are_pins t.process.out_start
+  pub revision : IsTrue h.any_revision → t.device.revision ≡ 0
+
 -- a type of slaves, within the limits of the profile, and each of its numbers within its range
 pub record IsType (t : TypeRow) : Type 0 where
   pub name : IsName t.name
@@ -58,6 +66,7 @@ pub record IsType (t : TypeRow) : Type 0 where
   pub out_start : t.process.out_start ≤ 65535
   pub in_start : t.process.in_start ≤ 65535
   pub entries : (d : Direction) → All (λ (q : Pdo). All HasName q.entries) (pdos_toward d t)
+  pub hardware : ForSome t.hardware (IsDescribed t)
 
 pub record AreTypes (ts : List TypeRow) : Type 0 where
   pub each : All IsType ts
@@ -114,8 +123,14 @@ pub record IsLink (ss : List SlaveRow) (ws : List VariableRow) (l : LinkRow) : T
 
 -- ---- the whole
 
+-- each type of a table for hardware says what it has of real devices; in other tables none does, and no variable has a sign
+pub record IsOfFormat (c : Contents) : Type 0 where
+  pub types : All (λ (t : TypeRow). is_some t.hardware ≡ c.hardware) c.types
+  pub variables : c.hardware ≡ false → All (λ (w : VariableRow). w.signed ≡ false) c.variables
+
 pub record IsSound (c : Contents) : Type 0 where
   pub types : AreTypes c.types
   pub slaves : AreSlaves c.version c.types c.slaves
   pub variables : AreVariables c.variables
   pub links : All (IsLink c.slaves c.variables) c.links
+  pub format : IsOfFormat c

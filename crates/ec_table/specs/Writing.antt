@@ -1,11 +1,13 @@
 -- The document of a table, with each key written.
-use Rattle.std.specs.Prelude.{ℕ, pos, List, [], map, codes, Option, Some, None, slice_get}
+use Rattle.std.specs.Prelude.{ℕ, pos, Bool, true, false, List, [], map, codes, Option, Some, None, slice_get}
 use Rattle.std.specs.Option.{option_map_or}
 use Rattle.toml.specs.Data.{Data, string, integer, boolean, array, table, Members, no_members, member, no_items, item}
 use Rattle.toml.specs.View.{items_of}
 use Rattle.ec_device.specs.declared.slave_type.Entry.{Entry}
 use Rattle.ec_device.specs.declared.slave_type.Pdo.{Pdo}
 use Rattle.ec_device.specs.declared.slave_type.Mailbox.{Mailbox}
+use Rattle.ec_device.specs.declared.hardware.ProcessManager.{ProcessManager}
+use Rattle.ec_device.specs.declared.hardware.Hardware.{Hardware}
 use Rattle.ec_table.specs.declared.rows.Version.{Version}
 use Rattle.ec_table.specs.declared.rows.Version.TheVariants.{One, Two}
 use Rattle.ec_table.specs.declared.rows.Direction.{Direction}
@@ -15,6 +17,7 @@ use Rattle.ec_table.specs.declared.rows.SlaveRow.{SlaveRow}
 use Rattle.ec_table.specs.declared.rows.VariableRow.{VariableRow}
 use Rattle.ec_table.specs.declared.rows.LinkRow.{LinkRow}
 use Rattle.ec_table.specs.declared.rows.LinkBits.{LinkBits}
+use Rattle.ec_device.specs.Hardware.{takes_any_revision}
 use Rattle.ec_table.specs.Contents.{Contents}
 
 abbrev pub number : ℕ → Data
@@ -39,19 +42,42 @@ abbrev pub with_mailbox : Option Mailbox → Members → Members
 with_mailbox None ms = ms
 with_mailbox (Some m) ms = member (codes "mailbox") (mailbox_data m) ms
 
+-- [number, control byte]
+abbrev pub manager_data : ProcessManager → Data
+manager_data m = array (item (number m.number) (item (number m.control) no_items))
+
+-- The keys of a type for hardware that stand before `in_start`, the one before `out_start`, and its revision, unless any fits. A
+-- type of another table has the last alone.
+abbrev pub with_firmware : Option Hardware → Members → Members
+with_firmware None ms = ms
+with_firmware (Some h) ms =
+    member (codes "firmware") (boolean h.has_firmware)
+    (member (codes "fmmus") (number h.fmmus)
+    (member (codes "in_manager") (manager_data h.in_manager) ms))
+
+abbrev pub with_out_manager : Option Hardware → Members → Members
+with_out_manager None ms = ms
+with_out_manager (Some h) ms = member (codes "out_manager") (manager_data h.out_manager) ms
+
+abbrev pub with_revision : (any : Bool) → ℕ → Members → Members
+with_revision true revision ms = ms
+with_revision false revision ms = member (codes "revision") (number revision) ms
+
 -- the keys of each element in ascending order, as a document has them
 abbrev pub type_members : TypeRow → Members
 type_members t =
-    member (codes "in_start") (number t.process.in_start)
+    with_firmware t.hardware
+    (member (codes "in_start") (number t.process.in_start)
     (member (codes "lrw") (boolean t.lrw)
     (with_mailbox t.mailbox
     (member (codes "name") (string t.name)
+    (with_out_manager t.hardware
     (member (codes "out_start") (number t.process.out_start)
     (member (codes "product") (number t.device.product)
-    (member (codes "revision") (number t.device.revision)
+    (with_revision (takes_any_revision t.hardware) t.device.revision
     (member (codes "rxpdo") (array_of_all pdo_data t.process.outputs)
     (member (codes "txpdo") (array_of_all pdo_data t.process.inputs)
-    (member (codes "vendor") (number t.device.vendor) no_members)))))))))
+    (member (codes "vendor") (number t.device.vendor) no_members)))))))))))
 
 -- version 1 has no key `unit`
 abbrev pub unit_members : Version → ℕ → Members
@@ -74,11 +100,16 @@ abbrev pub direction_text : Direction → List ℕ
 direction_text Out = codes "out"
 direction_text In = codes "in"
 
-abbrev pub variable_members : VariableRow → Members
-variable_members w =
+-- only a table for hardware has the key `signed`
+abbrev pub signed_members : (hardware signed : Bool) → Members
+signed_members false signed = no_members
+signed_members true signed = member (codes "signed") (boolean signed) no_members
+
+abbrev pub variable_members : (hardware : Bool) → VariableRow → Members
+variable_members hardware w =
     member (codes "bits") (number w.bits)
     (member (codes "dir") (string (direction_text w.direction))
-    (member (codes "name") (string w.name) no_members))
+    (member (codes "name") (string w.name) (signed_members hardware w.signed)))
 
 -- [variable bit, entry bit, count]
 abbrev pub bits_data : LinkBits → Data
@@ -104,8 +135,9 @@ version_number Two = 2
 
 unfoldable pub document_of : Contents → Members
 document_of c =
-    member (codes "link") (array_of_all (λ l. table (link_members c.slaves c.variables l)) c.links)
+    member (codes "hardware") (boolean c.hardware)
+    (member (codes "link") (array_of_all (λ l. table (link_members c.slaves c.variables l)) c.links)
     (member (codes "slave") (array_of_all (λ s. table (slave_members c.version c.types s)) c.slaves)
     (member (codes "type") (array_of_all (λ t. table (type_members t)) c.types)
-    (member (codes "variable") (array_of_all (λ w. table (variable_members w)) c.variables)
-    (member (codes "version") (number (version_number c.version)) no_members))))
+    (member (codes "variable") (array_of_all (λ w. table (variable_members c.hardware w)) c.variables)
+    (member (codes "version") (number (version_number c.version)) no_members)))))

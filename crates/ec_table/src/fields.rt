@@ -4,13 +4,13 @@ ghost use Rattle.std.specs.List.{list_all};
 ghost use Rattle.std.specs.Str.{bytes_eq};
 ghost use Rattle.toml.specs.Data.{at, get_member};
 ghost use Rattle.toml.specs.View.{view, table_view, items_view};
-ghost use Rattle.ec_table.specs.Fields.{number_or_0, version_in, is_name_byte, is_name, number_in, name_in, is_table, are_tables, section_in, viewed, result_elements, result_items};
+ghost use Rattle.ec_table.specs.Fields.{number_or_0, version_in, truth_in, format_in, is_name_byte, is_name, number_in, name_in, is_table, are_tables, section_in, viewed, result_elements, result_items};
 ghost use Rattle.ec_table.specs.InOrder.{Gives, rows_after};
 ghost use Rattle.ec_table.specs.Pdos.{number_row, number_list, numbers_in};
 
 use crate::fault::{Fault, Position, TableError};
 use crate::keys::Shape;
-use crate::rows::{Name, Version};
+use crate::rows::{Format, Name, Version};
 use ec_listed::Listed;
 use std::alloc::Global;
 use toml::Value;
@@ -106,7 +106,7 @@ pub fn name_in(position: Position, value: Option<&Value>) -> Result<Name, Fault>
 
 /// The version of the format, 1 if it is left out.
 #[tactic(auto, unfolding(crate::specs::Fields::version_in))]
-pub fn version_in(position: Position, value: Option<&Value>) -> Result<Version, Fault>
+fn version_in(position: Position, value: Option<&Value>) -> Result<Version, Fault>
     ensures { result ≡ version_in position (viewed value.entry) }
 {
     let Some(value) = value else {
@@ -118,6 +118,33 @@ pub fn version_in(position: Position, value: Option<&Value>) -> Result<Version, 
         Ok(Version::One)
     } else {
         Ok(Version::Two)
+    }
+}
+
+/// The format of a document, by the values under `version` and `hardware`.
+#[tactic(auto, unfolding(crate::specs::Fields::format_in))]
+pub fn format_in(
+    position: Position,
+    version: Option<&Value>,
+    hardware: Option<&Value>,
+) -> Result<Format, Fault>
+    ensures { result ≡ format_in position (viewed version.entry) (viewed hardware.entry) }
+{
+    let version = version_in(position, version)?;
+    let hardware = truth_in(position, false, hardware)?;
+    Ok(Format { version, hardware })
+}
+
+/// A truth value, with what it is if it is left out, or the fault `BadValue`.
+pub fn truth_in(position: Position, left_out: bool, value: Option<&Value>) -> Result<bool, Fault>
+    ensures { result ≡ truth_in position left_out (viewed value.entry) }
+{
+    let Some(value) = value else {
+        return Ok(left_out);
+    };
+    match value.as_bool() {
+        Some(truth) => Ok(truth),
+        None => Err(Fault::BadValue(position)),
     }
 }
 

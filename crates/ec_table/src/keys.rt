@@ -1,11 +1,14 @@
 //! The keys of the tables in a document, and what each takes.
 ghost use Rattle.std.specs.Prelude.{◌≡◌, map};
 ghost use Rattle.ec_table.specs.Keys.{index_range, key_row, keys_of, number_range, rule_at};
-ghost use Rattle.ec_table.specs.declared.keys.Shape.TheVariants.{Slave};
+ghost use Rattle.ec_table.specs.declared.keys.Shape.TheVariants as shape;
 
 use crate::pdos::{LAST_INPUT_INDEX, LAST_OUTPUT_INDEX};
-use crate::rows::Version;
-use ec_device::{FIRST_INPUT_INDEX, FIRST_OUTPUT_INDEX, MAX_MAILBOX_SIZE, MIN_MAILBOX_SIZE};
+use crate::rows::{Format, Version};
+use ec_device::{
+    FIRST_INPUT_INDEX, FIRST_OUTPUT_INDEX, LAST_MANAGER, MAX_FMMUS, MAX_MAILBOX_SIZE, MIN_FMMUS,
+    MIN_MAILBOX_SIZE,
+};
 
 /// A kind of table in a document.
 #[derive(Clone, Copy)]
@@ -29,6 +32,8 @@ pub enum Rule {
     Number(u32, u32),
     /// The starts and sizes of the mailboxes, each in its range of `MAILBOX`.
     Mailbox,
+    /// The number and the control byte of a sync manager, in the ranges of `MANAGER`.
+    Manager,
     /// Indices of PDOs, each from the first to the second.
     Indices(u16, u16),
     /// PDOs, each with an index from the first to the second.
@@ -60,36 +65,74 @@ const LAST_BIT: u32 = 63;
 pub type Key = (&'static str, Rule, bool);
 
 /// The most keys of a table.
-pub const MAX_KEYS: usize = 10;
+pub const MAX_KEYS: usize = 14;
+
+// The keys that a type has in either format.
+const NAME_KEY: Key = ("name", Rule::Name, true);
+
+const VENDOR_KEY: Key = ("vendor", Rule::Number(0, u32::MAX), true);
+
+const PRODUCT_KEY: Key = ("product", Rule::Number(0, u32::MAX), true);
+
+const MAILBOX_KEY: Key = ("mailbox", Rule::Mailbox, false);
+
+const RXPDO_KEY: Key = (
+    "rxpdo",
+    Rule::Pdos(FIRST_OUTPUT_INDEX, LAST_OUTPUT_INDEX),
+    false,
+);
+
+const TXPDO_KEY: Key = (
+    "txpdo",
+    Rule::Pdos(FIRST_INPUT_INDEX, LAST_INPUT_INDEX),
+    false,
+);
+
+const LRW_KEY: Key = ("lrw", Rule::Truth, false);
 
 // The keys of each shape, in the order in which their values are read.
-static DOCUMENT_KEYS: [Key; 5] = [
+static DOCUMENT_KEYS: [Key; 6] = [
     ("version", Rule::Number(1, 2), false),
+    ("hardware", Rule::Truth, false),
     ("type", Rule::Tables, false),
     ("slave", Rule::Tables, false),
     ("variable", Rule::Tables, false),
     ("link", Rule::Tables, false),
 ];
 
-static TYPE_KEYS: [Key; MAX_KEYS] = [
-    ("name", Rule::Name, true),
-    ("vendor", Rule::Number(0, u32::MAX), true),
-    ("product", Rule::Number(0, u32::MAX), true),
+static TYPE_KEYS: [Key; 10] = [
+    NAME_KEY,
+    VENDOR_KEY,
+    PRODUCT_KEY,
     ("revision", Rule::Number(0, u32::MAX), true),
-    ("mailbox", Rule::Mailbox, false),
+    MAILBOX_KEY,
     ("out_start", Rule::Number(0, MAX_U16), true),
     ("in_start", Rule::Number(0, MAX_U16), true),
+    RXPDO_KEY,
+    TXPDO_KEY,
+    LRW_KEY,
+];
+
+// Those of a type for hardware: any revision may fit, and a device without process data has no starts.
+static HARDWARE_TYPE_KEYS: [Key; MAX_KEYS] = [
+    NAME_KEY,
+    VENDOR_KEY,
+    PRODUCT_KEY,
+    ("revision", Rule::Number(0, u32::MAX), false),
+    MAILBOX_KEY,
+    ("out_start", Rule::Number(0, MAX_U16), false),
+    ("in_start", Rule::Number(0, MAX_U16), false),
+    RXPDO_KEY,
+    TXPDO_KEY,
+    LRW_KEY,
+    ("out_manager", Rule::Manager, false),
+    ("in_manager", Rule::Manager, false),
+    ("firmware", Rule::Truth, false),
     (
-        "rxpdo",
-        Rule::Pdos(FIRST_OUTPUT_INDEX, LAST_OUTPUT_INDEX),
+        "fmmus",
+        Rule::Number(MIN_FMMUS as u32, MAX_FMMUS as u32),
         false,
     ),
-    (
-        "txpdo",
-        Rule::Pdos(FIRST_INPUT_INDEX, LAST_INPUT_INDEX),
-        false,
-    ),
-    ("lrw", Rule::Truth, false),
 ];
 
 static PDO_KEYS: [Key; 2] = [
@@ -114,10 +157,11 @@ static SLAVE_KEYS: [Key; 6] = [
     ("unit", Rule::Number(0, MAX_UNIT), false),
 ];
 
-static VARIABLE_KEYS: [Key; 3] = [
+static VARIABLE_KEYS: [Key; 4] = [
     ("name", Rule::Name, true),
     ("dir", Rule::Direction, true),
     ("bits", Rule::Number(1, MAX_VALUE_BITS), true),
+    ("signed", Rule::Truth, false),
 ];
 
 static LINK_KEYS: [Key; 5] = [
@@ -133,6 +177,9 @@ const MAILBOX_SIZES: (u32, u32) = (MIN_MAILBOX_SIZE as u32, MAX_MAILBOX_SIZE as 
 /// The ranges of the numbers of a mailbox: receive start and size, send start and size.
 pub static MAILBOX: [(u32, u32); 4] = [(0, MAX_U16), MAILBOX_SIZES, (0, MAX_U16), MAILBOX_SIZES];
 
+/// The ranges of the numbers of a sync manager: its number, its control byte.
+pub static MANAGER: [(u32, u32); 2] = [(0, LAST_MANAGER as u32), (0, MAX_U8)];
+
 /// The ranges of the numbers of a link's bits: first bit of the variable, first bit of the entry, number of bits.
 pub static LINK_BITS: [(u32, u32); 3] = [(0, LAST_BIT), (0, LAST_BIT), (1, MAX_VALUE_BITS)];
 
@@ -140,16 +187,16 @@ pub static LINK_BITS: [(u32, u32); 3] = [(0, LAST_BIT), (0, LAST_BIT), (1, MAX_V
 pub static ENTRY: [(u32, u32); 3] = [(0, MAX_U16), (0, MAX_U8), (1, MAX_VALUE_BITS)];
 
 impl Shape {
-    /// The keys that a table of this shape may have in a version of the format, in the order in which their values are read.
-    pub fn keys(self, version: Version) -> &'static [Key]
-        ensures { map key_row result.now ≡ keys_of self version }
+    /// The keys that a table of this shape may have in a format, in the order in which their values are read.
+    pub fn keys(self, format: Format) -> &'static [Key]
+        ensures { map key_row result.now ≡ keys_of self format }
     {
         match self {
             Shape::Document => &DOCUMENT_KEYS,
-            Shape::Type => &TYPE_KEYS,
+            Shape::Type => type_keys(format),
             Shape::Pdo => &PDO_KEYS,
-            Shape::Slave => slave_keys(version),
-            Shape::Variable => &VARIABLE_KEYS,
+            Shape::Slave => slave_keys(format),
+            Shape::Variable => variable_keys(format),
             Shape::Link => &LINK_KEYS,
         }
     }
@@ -158,7 +205,7 @@ impl Shape {
     pub fn rule(self, place: usize) -> Rule
         ensures { result ≡ rule_at self place }
     {
-        let keys = self.keys(Version::Two);
+        let keys = self.keys(Format::full());
         if place < keys.len() {
             keys[place].1
         } else {
@@ -189,11 +236,31 @@ impl Rule {
     }
 }
 
-/// The keys of a slave; version 1 doesn't have the last, `unit`.
-fn slave_keys(version: Version) -> &'static [Key]
-    ensures { map key_row result.now ≡ keys_of Slave version }
+/// The keys of a type.
+fn type_keys(format: Format) -> &'static [Key]
+    ensures { map key_row result.now ≡ keys_of shape.Type format }
 {
-    match version {
+    match format.hardware {
+        false => &TYPE_KEYS,
+        true => &HARDWARE_TYPE_KEYS,
+    }
+}
+
+/// The keys of a variable; a table that isn't for hardware doesn't have the last, `signed`.
+fn variable_keys(format: Format) -> &'static [Key]
+    ensures { map key_row result.now ≡ keys_of shape.Variable format }
+{
+    match format.hardware {
+        false => &VARIABLE_KEYS[..3],
+        true => &VARIABLE_KEYS,
+    }
+}
+
+/// The keys of a slave; version 1 doesn't have the last, `unit`.
+fn slave_keys(format: Format) -> &'static [Key]
+    ensures { map key_row result.now ≡ keys_of shape.Slave format }
+{
+    match format.version {
         Version::One => &SLAVE_KEYS[..5],
         Version::Two => &SLAVE_KEYS,
     }

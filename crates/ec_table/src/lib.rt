@@ -1,12 +1,14 @@
 //! Link tables: the types, slaves, variables and links that a TOML text states.
 #![tactic(auto)]
 
+mod described;
 mod fault;
 mod fields;
 mod keys;
 pub mod laws;
 mod links;
 mod named;
+mod numbers;
 mod or_memory;
 mod pdos;
 mod read;
@@ -18,10 +20,12 @@ mod values;
 mod variables;
 
 pub use crate::fault::{Fault, Position, Section, TableError};
-pub use crate::keys::{ENTRY, Key, LINK_BITS, MAILBOX, Rule, Shape};
+pub use crate::keys::{ENTRY, Key, LINK_BITS, MAILBOX, MANAGER, Rule, Shape};
+pub use crate::numbers::number_in;
 pub use crate::or_memory::{OrMemory, Refusing};
 pub use crate::read::read_table;
 pub use crate::rows::{
-    Direction, LinkBits, LinkRow, Name, ProcessData, SlaveRow, TypeRow, VariableRow, Version,
+    Direction, Format, LinkBits, LinkRow, Name, ProcessData, SlaveRow, TypeRow, VariableRow,
+    Version,
 };
 pub use crate::table::Table;

@@ -9,7 +9,7 @@ use crate::fault::{Fault, Position, Section, TableError};
 use crate::fields::{item_in, name_in};
 use crate::keys::{LINK_BITS, Shape};
 use crate::named::NamedRows;
-use crate::rows::{LinkBits, LinkRow, SlaveRow, VariableRow, Version};
+use crate::rows::{Format, LinkBits, LinkRow, SlaveRow, VariableRow};
 use crate::values::values_of;
 use ec_listed::Listed;
 use std::alloc::Global;
@@ -27,13 +27,13 @@ struct Near {
 #[tactic(auto, using(crate::proofs::SectionRows::rows_left))]
 pub fn links_of(
     alloc: Global,
-    version: Version,
+    format: Format,
     slaves: &NamedRows<SlaveRow>,
     variables: &NamedRows<VariableRow>,
     elements: Vec<Value>,
 ) -> Result<Listed<LinkRow>, TableError>
     ensures { Gives result
-        (rows_after (link_element version slaves.now variables.now) [] 0 (items_view elements.items)) }
+        (rows_after (link_element format slaves.now variables.now) [] 0 (items_view elements.items)) }
 {
     let mut found = Listed::new(alloc);
     let mut near = Near {
@@ -41,7 +41,7 @@ pub fn links_of(
         slave: 0,
     };
     for value in elements {
-        let row = link_element(version, slaves, variables, found.len(), &value, near)?;
+        let row = link_element(format, slaves, variables, found.len(), &value, near)?;
         near = Near {
             variable: row.variable.saturating_add(1),
             slave: row.slave,
@@ -52,21 +52,21 @@ pub fn links_of(
 }
 
 fn link_element(
-    version: Version,
+    format: Format,
     slaves: &NamedRows<SlaveRow>,
     variables: &NamedRows<VariableRow>,
     element: usize,
     value: &Value,
     near: Near,
 ) -> Result<LinkRow, Fault>
-    ensures { result ≡ link_element version slaves.now variables.now element (view value.now) [] }
+    ensures { result ≡ link_element format slaves.now variables.now element (view value.now) [] }
 {
     let position = Position {
         section: Section::Link,
         element,
     };
     match value.as_table() {
-        Some(members) => link_at(version, slaves, variables, position, members, near),
+        Some(members) => link_at(format, slaves, variables, position, members, near),
         None => Err(Fault::BadValue(position)),
     }
 }
@@ -74,16 +74,16 @@ fn link_element(
 /// The link that an element states.
 #[tactic(auto, unfolding(crate::specs::Reading::link_at))]
 fn link_at(
-    version: Version,
+    format: Format,
     slaves: &NamedRows<SlaveRow>,
     variables: &NamedRows<VariableRow>,
     position: Position,
     members: &toml::Table,
     near: Near,
 ) -> Result<LinkRow, Fault>
-    ensures { result ≡ link_at version slaves.now variables.now position (table_view members.now) }
+    ensures { result ≡ link_at format slaves.now variables.now position (table_view members.now) }
 {
-    let Some(values) = values_of(Shape::Link, version, members) else {
+    let Some(values) = values_of(Shape::Link, format, members) else {
         return Err(Fault::BadKey(position));
     };
     let variable_name = name_in(position, values.at(0))?;

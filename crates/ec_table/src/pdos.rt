@@ -9,7 +9,7 @@ ghost use Rattle.ec_table.specs.Pdos.{entry_of, entry_row, array_of, array_in, p
 use crate::fault::{Fault, Position, TableError};
 use crate::fields::{item_in, number_in};
 use crate::keys::{ENTRY, Shape};
-use crate::rows::Version;
+use crate::rows::Format;
 use crate::values::values_of;
 use ec_device::{
     Entry, FIRST_INPUT_INDEX, FIRST_OUTPUT_INDEX, MAX_ENTRIES, MAX_PDOS, PDO_INDICES, Pdo,
@@ -150,7 +150,7 @@ fn pdo_of(
 ) -> Result<Pdo, TableError>
     ensures { Gives result (pdo_of position low high (table_view members.now)) }
 {
-    let Some(values) = values_of(Shape::Pdo, Version::Two, members) else {
+    let Some(values) = values_of(Shape::Pdo, Format::full(), members) else {
         return Err(TableError::Refused(Fault::BadValue(position)));
     };
     let index = number_in(position, values.at(0), u32::from(low), u32::from(high))?;

@@ -8,10 +8,10 @@ ghost use Rattle.ec_table.specs.InOrder.{Gives};
 ghost use Rattle.ec_table.specs.Reading.{table_of_document, table_of_sections, table_of};
 
 use crate::fault::{Fault, Position, Section, TableError};
-use crate::fields::{elements_in, member, section_in, version_in};
+use crate::fields::{elements_in, format_in, member, section_in};
 use crate::keys::Shape;
 use crate::links::links_of;
-use crate::rows::Version;
+use crate::rows::Format;
 use crate::slaves::slaves_of;
 use crate::table::Table;
 use crate::types::types_of;
@@ -46,8 +46,12 @@ fn table_of_document(alloc: Global, document: &mut toml::Table) -> Result<Table,
         section: Section::Top,
         element: 0,
     };
-    let version = version_in(top, member(document, "version"))?;
-    if values_of(Shape::Document, version, document).is_none() {
+    let format = format_in(
+        top,
+        member(document, "version"),
+        member(document, "hardware"),
+    )?;
+    if values_of(Shape::Document, format, document).is_none() {
         return Err(TableError::Refused(Fault::BadKey(top)));
     }
     let variables = take_member(document, "variable");
@@ -56,7 +60,7 @@ fn table_of_document(alloc: Global, document: &mut toml::Table) -> Result<Table,
     let slaves = section_in(top, member(document, "slave"))?;
     let variables = elements_in(alloc, top, variables)?;
     let links = elements_in(alloc, top, links)?;
-    table_of_sections(alloc, version, types, slaves, variables, links)
+    table_of_sections(alloc, format, types, slaves, variables, links)
 }
 
 /// Takes out the value under a key; the values under other keys stay.
@@ -72,21 +76,21 @@ fn take_member(document: &mut toml::Table, key: &str) -> Option<Value>
 #[tactic(auto, unfolding(crate::specs::Reading::table_of_sections))]
 fn table_of_sections(
     alloc: Global,
-    version: Version,
+    format: Format,
     types: &[Value],
     slaves: &[Value],
     variables: Vec<Value>,
     links: Vec<Value>,
 ) -> Result<Table, TableError>
-    ensures { Gives result (table_of_sections version (items_view types.now)
+    ensures { Gives result (table_of_sections format (items_view types.now)
         (items_view slaves.now) (items_view variables.items) (items_view links.items)) }
 {
-    let types = types_of(alloc, version, types)?;
-    let slaves = slaves_of(alloc, version, &types, slaves)?;
-    let variables = variables_of(alloc, version, variables)?;
-    let links = links_of(alloc, version, &slaves, &variables, links)?;
+    let types = types_of(alloc, format, types)?;
+    let slaves = slaves_of(alloc, format, &types, slaves)?;
+    let variables = variables_of(alloc, format, variables)?;
+    let links = links_of(alloc, format, &slaves, &variables, links)?;
     Ok(Table::new(
-        version,
+        format,
         types.into_rows(),
         slaves.into_rows(),
         variables.into_rows(),

@@ -1,9 +1,11 @@
 //! The rows of a table.
 ghost use Rattle.std.specs.Prelude.{◌≡◌, ◌≤◌, length};
+ghost use Rattle.ec_device.specs.Hardware.{other_name};
 ghost use Rattle.ec_table.specs.Contents.{pdos_toward, assigned_toward};
+ghost use Rattle.ec_table.specs.Fields.{full_format};
 
 use arrayvec::ArrayString;
-use ec_device::{Device, Mailbox, Pdo};
+use ec_device::{Device, Hardware, Mailbox, Pdo};
 use ec_listed::Listed;
 use std::marker::Model;
 
@@ -56,6 +58,27 @@ pub enum Version {
     Two,
 }
 
+/// The format of a link table: which keys its tables may have, and which they must have.
+#[derive(Clone, Copy, Debug, PartialEq, Eq)]
+pub struct Format {
+    /// Its version.
+    pub version: Version,
+    /// Whether its slaves are real devices, or simulated ones that behave like them.
+    pub hardware: bool,
+}
+
+impl Format {
+    /// The format that has every key.
+    pub fn full() -> Self
+        ensures { result ≡ full_format }
+    {
+        Format {
+            version: Version::Two,
+            hardware: true,
+        }
+    }
+}
+
 /// The direction of data: `Out` from the master to a slave, `In` from a slave to the master.
 #[derive(Clone, Copy, Debug, PartialEq, Eq)]
 pub enum Direction {
@@ -89,6 +112,8 @@ pub struct TypeRow {
     pub process: ProcessData,
     /// Whether slaves of the type take part in LRW datagrams.
     pub lrw: bool,
+    /// What it says of real devices, in a table for hardware.
+    pub hardware: Option<Hardware>,
 }
 
 impl TypeRow {
@@ -99,6 +124,17 @@ impl TypeRow {
         match direction {
             Direction::Out => self.process.outputs.as_slice(),
             Direction::In => self.process.inputs.as_slice(),
+        }
+    }
+
+    /// Where its outputs begin inside a slave. Pins are a register of the device, and lie elsewhere there.
+    pub fn out_start_inside(&self) -> u16
+        ensures { result ≡ other_name self.now.hardware self.now.process.out_start }
+    {
+        let start = self.process.out_start;
+        match &self.hardware {
+            None => start,
+            Some(hardware) => hardware.other_name(start),
         }
     }
 }
@@ -141,6 +177,8 @@ pub struct VariableRow {
     pub direction: Direction,
     /// How many bits it has, 1 to 64.
     pub bits: u8,
+    /// Whether its value is a signed number for people: in texts and comparisons.
+    pub signed: bool,
 }
 
 /// The bits that a link joins: `count` bits of the variable, and as many of the entry.

@@ -12,7 +12,7 @@ use crate::fields::{name_in, numbers_in};
 use crate::keys::Shape;
 use crate::named::{Named, NamedRows};
 use crate::pdos::{has_twice, indices_of, is_index};
-use crate::rows::{Name, ProcessData, SlaveRow, TypeRow, Version};
+use crate::rows::{Format, Name, ProcessData, SlaveRow, TypeRow};
 use crate::values::values_of;
 use ec_device::Pdo;
 use ec_listed::Listed;
@@ -40,15 +40,15 @@ pub struct Written {
 #[tactic(auto, using(crate::proofs::SectionRows::rows_all))]
 pub fn slaves_of(
     alloc: Global,
-    version: Version,
+    format: Format,
     types: &NamedRows<TypeRow>,
     elements: &[Value],
 ) -> Result<NamedRows<SlaveRow>, TableError>
-    ensures { Gives result (rows_after (slave_element version types.now) [] 0 (items_view elements.now)) }
+    ensures { Gives result (rows_after (slave_element format types.now) [] 0 (items_view elements.now)) }
 {
     let mut found = NamedRows::new(alloc);
     for (element, value) in elements.iter().enumerate() {
-        let row = slave_element(alloc, version, types, element, value, &found)?;
+        let row = slave_element(alloc, format, types, element, value, &found)?;
         found = found.with(row)?;
     }
     Ok(found)
@@ -57,13 +57,13 @@ pub fn slaves_of(
 /// The slave that an element of the section states. No slave in `found` has its name.
 fn slave_element(
     alloc: Global,
-    version: Version,
+    format: Format,
     types: &NamedRows<TypeRow>,
     element: usize,
     value: &Value,
     found: &NamedRows<SlaveRow>,
 ) -> Result<SlaveRow, TableError>
-    ensures value { Gives result (slave_element version types.now element (view value.now) found.now) }
+    ensures value { Gives result (slave_element format types.now element (view value.now) found.now) }
     ensures fresh { IfOk result (λ s. is_named (λ (s : SlaveRow). s.name) s.name found.now ≡ false) }
 {
     let position = Position {
@@ -71,7 +71,7 @@ fn slave_element(
         element,
     };
     match value.as_table() {
-        Some(members) => slave_at(alloc, version, types, position, members, found),
+        Some(members) => slave_at(alloc, format, types, position, members, found),
         None => Err(TableError::Refused(Fault::BadValue(position))),
     }
 }
@@ -80,16 +80,16 @@ fn slave_element(
 #[tactic(auto, unfolding(crate::specs::Reading::slave_at, crate::specs::Reading::slave_named))]
 fn slave_at(
     alloc: Global,
-    version: Version,
+    format: Format,
     types: &NamedRows<TypeRow>,
     position: Position,
     members: &toml::Table,
     found: &NamedRows<SlaveRow>,
 ) -> Result<SlaveRow, TableError>
-    ensures value { Gives result (slave_at version types.now position (table_view members.now) found.now) }
+    ensures value { Gives result (slave_at format types.now position (table_view members.now) found.now) }
     ensures fresh { IfOk result (λ s. is_named (λ (s : SlaveRow). s.name) s.name found.now ≡ false) }
 {
-    let Some(values) = values_of(Shape::Slave, version, members) else {
+    let Some(values) = values_of(Shape::Slave, format, members) else {
         return Err(TableError::Refused(Fault::BadKey(position)));
     };
     let name = name_in(position, values.at(0))?;

@@ -6,22 +6,24 @@ ghost use Rattle.ec_device.specs.Types.{IsEntry, IsFace};
 ghost use Rattle.ec_device.specs.Objects.{bits_of, entries_at, assigned_entries};
 ghost use Rattle.ec_table.specs.Contents.{advertised_as, advertised_full};
 ghost use Rattle.ec_table.specs.Sound.{IsSound, IsType, AreTypes, AreSlaves, IsVariable, AreVariables, IsLink};
+ghost use Rattle.ec_table.specs.Numbers.{number_at};
 ghost use Rattle.ec_table.specs.Objects.{type_of, variable_of, slave_of, identity_of, face_of, kind_of, entries_of};
 
-use crate::rows::{Direction, LinkRow, SlaveRow, TypeRow, VariableRow, Version};
+use crate::numbers::number_in;
+use crate::rows::{Direction, Format, LinkRow, SlaveRow, TypeRow, VariableRow, Version};
 use ec_device::{Entry, Face, Identity, Pdo, SlaveType, copied_pdos};
 use ec_listed::Listed;
 use std::alloc::{AllocError, Global};
 use std::marker::Model;
 
-/// What a text states: a version, and the rows of each section in file order. A table is also advertised in full or not, which no
+/// What a text states: a format, and the rows of each section in file order. A table is also advertised in full or not, which no
 /// text states. If it is, its slaves have a face: they look to common masters as those expect.
 ///
 /// Each table is sound. Names stand once in their section, and each reference to a row finds one. Assigned objects are
 /// the type's, each once. All values are in their ranges.
 #[derive(Debug, Drop)]
 pub struct Table {
-    version: Version,
+    format: Format,
     types: Listed<TypeRow>,
     slaves: Listed<SlaveRow>,
     variables: Listed<VariableRow>,
@@ -36,7 +38,8 @@ impl Model for Table {
     ghost Value = { Contents };
 
     ghost view = { λ t. record {
-      version = t.version;
+      version = t.format.version;
+      hardware = t.format.hardware;
       types = t.types;
       slaves = t.slaves;
       variables = t.variables;
@@ -45,7 +48,8 @@ impl Model for Table {
     } };
 
     ghost invariant = { λ t. IsSound (record {
-      version = t.version;
+      version = t.format.version;
+      hardware = t.format.hardware;
       types = t.types;
       slaves = t.slaves;
       variables = t.variables;
@@ -57,14 +61,15 @@ impl Model for Table {
 impl Table {
     /// A table of rows that were read, which isn't advertised in full.
     pub(crate) fn new(
-        version: Version,
+        format: Format,
         types: Listed<TypeRow>,
         slaves: Listed<SlaveRow>,
         variables: Listed<VariableRow>,
         links: Listed<LinkRow>,
     ) -> Table
         requires { IsSound (record {
-          version = version;
+          version = format.version;
+          hardware = format.hardware;
           types = types;
           slaves = slaves;
           variables = variables;
@@ -72,7 +77,8 @@ impl Table {
           full = false;
         }) }
         ensures { result ≡ record {
-          version = version;
+          version = format.version;
+          hardware = format.hardware;
           types = types;
           slaves = slaves;
           variables = variables;
@@ -81,7 +87,7 @@ impl Table {
         } }
     {
         Table {
-            version,
+            format,
             types,
             slaves,
             variables,
@@ -113,7 +119,14 @@ impl Table {
         ensures value { result ≡ self.now.version }
         ensures sound { IsSound self.now }
     {
-        self.version
+        self.format.version
+    }
+
+    /// Whether the slaves are real devices, or simulated ones that behave like them.
+    pub fn is_hardware(&self) -> bool
+        ensures { result ≡ self.now.hardware }
+    {
+        self.format.hardware
     }
 
     /// Does nothing. Its contract says that every table is sound.
@@ -175,6 +188,17 @@ impl Table {
         &self.variables.as_slice()[row.variable]
     }
 
+    /// The number that a value of the variable at a place is for people: of a signed variable, two's complement of its bits. Where
+    /// no variable is, it is the value.
+    pub fn number(&self, variable: usize, value: u64) -> i128
+        ensures { result ≡ number_at self.now variable value }
+    {
+        match self.variables.as_slice().get(variable) {
+            Some(row) => number_in(row.signed, row.bits, value),
+            None => i128::from(value),
+        }
+    }
+
     /// The slave of the link at a place.
     pub fn slave_of(&self, link: usize) -> &SlaveRow
         requires { link < length self.now.links }
@@ -206,13 +230,15 @@ impl Table {
         let mut kind = SlaveType::new(
             row.device,
             row.mailbox,
-            row.process.out_start,
+            row.out_start_inside(),
             row.process.in_start,
             outputs,
             inputs,
             row.lrw,
         );
-        if self.is_full {
+        if let Some(hardware) = row.hardware {
+            kind.describe(hardware);
+        } else if self.is_full {
             kind.show(self.face(alloc, slave)?);
         }
         Ok(kind)

@@ -1,19 +1,20 @@
 //! Reads the types of slaves that elements state.
 ghost use Rattle.std.specs.Prelude.{◌≡◌, ◌||◌, [], false, IfOk, None, get_or};
 ghost use Rattle.toml.specs.View.{view, table_view, items_view};
-ghost use Rattle.ec_table.specs.Fields.{mailbox_of, mailbox_in, viewed, truth_in};
+ghost use Rattle.ec_table.specs.Fields.{mailbox_of, mailbox_in, viewed};
 ghost use Rattle.ec_table.specs.InOrder.{Gives, rows_after};
 ghost use Rattle.ec_table.specs.Names.{is_named};
 ghost use Rattle.ec_table.specs.declared.keys.Shape.TheVariants as shape;
 ghost use Rattle.ec_table.specs.declared.rows.TypeRow.{TypeRow};
 ghost use Rattle.ec_table.specs.Reading.{device_in, process_in, process_twice, type_at, type_element};
 
+use crate::described::{hardware_in, is_possible};
 use crate::fault::{Fault, Position, Section, TableError};
-use crate::fields::{item_in, name_in};
+use crate::fields::{item_in, name_in, truth_in};
 use crate::keys::{MAILBOX, Shape};
 use crate::named::{Named, NamedRows};
 use crate::pdos::{have_twice, pdos_in};
-use crate::rows::{Name, ProcessData, TypeRow, Version};
+use crate::rows::{Format, Name, ProcessData, TypeRow};
 use crate::values::{Values, values_of};
 use ec_device::{Device, Mailbox};
 use std::alloc::Global;
@@ -31,14 +32,14 @@ impl Named for TypeRow {
 #[tactic(auto, using(crate::proofs::SectionRows::rows_all))]
 pub fn types_of(
     alloc: Global,
-    version: Version,
+    format: Format,
     elements: &[Value],
 ) -> Result<NamedRows<TypeRow>, TableError>
-    ensures { Gives result (rows_after (type_element version) [] 0 (items_view elements.now)) }
+    ensures { Gives result (rows_after (type_element format) [] 0 (items_view elements.now)) }
 {
     let mut found = NamedRows::new(alloc);
     for (element, value) in elements.iter().enumerate() {
-        let row = type_element(alloc, version, element, value, &found)?;
+        let row = type_element(alloc, format, element, value, &found)?;
         found = found.with(row)?;
     }
     Ok(found)
@@ -47,12 +48,12 @@ pub fn types_of(
 /// The type that an element of the section states. No type in `found` has its name.
 fn type_element(
     alloc: Global,
-    version: Version,
+    format: Format,
     element: usize,
     value: &Value,
     found: &NamedRows<TypeRow>,
 ) -> Result<TypeRow, TableError>
-    ensures value { Gives result (type_element version element (view value.now) found.now) }
+    ensures value { Gives result (type_element format element (view value.now) found.now) }
     ensures fresh { IfOk result (λ t. is_named (λ (t : TypeRow). t.name) t.name found.now ≡ false) }
 {
     let position = Position {
@@ -60,7 +61,7 @@ fn type_element(
         element,
     };
     match value.as_table() {
-        Some(members) => type_at(alloc, version, position, members, found),
+        Some(members) => type_at(alloc, format, position, members, found),
         None => Err(TableError::Refused(Fault::BadValue(position))),
     }
 }
@@ -69,24 +70,28 @@ fn type_element(
 #[tactic(auto, unfolding(crate::specs::Reading::type_at, crate::specs::Reading::type_named))]
 fn type_at(
     alloc: Global,
-    version: Version,
+    format: Format,
     position: Position,
     members: &toml::Table,
     found: &NamedRows<TypeRow>,
 ) -> Result<TypeRow, TableError>
-    ensures value { Gives result (type_at version position (table_view members.now) found.now) }
+    ensures value { Gives result (type_at format position (table_view members.now) found.now) }
     ensures fresh { IfOk result (λ t. is_named (λ (t : TypeRow). t.name) t.name found.now ≡ false) }
 {
-    let Some(values) = values_of(Shape::Type, version, members) else {
+    let Some(values) = values_of(Shape::Type, format, members) else {
         return Err(TableError::Refused(Fault::BadKey(position)));
     };
     let name = name_in(position, values.at(0))?;
     let device = device_in(position, &values)?;
     let mailbox = mailbox_in(position, values.at(4))?;
     let process = process_in(alloc, position, &values)?;
-    let lrw = truth_in(position, values.at(9))?;
+    let lrw = truth_in(position, true, values.at(9))?;
+    let hardware = hardware_in(format, position, &process, &values)?;
     if found.has(&name) || is_twice(&process) {
         return Err(TableError::Refused(Fault::TwiceNamed(position)));
+    }
+    if !is_possible(&mailbox, &hardware) {
+        return Err(TableError::Refused(Fault::BadValue(position)));
     }
     Ok(TypeRow {
         name,
@@ -94,6 +99,7 @@ fn type_at(
         mailbox,
         process,
         lrw,
+        hardware,
     })
 }
 
@@ -115,8 +121,8 @@ fn process_in(
     ensures { let found = values.now.found in
         Gives result (process_in position (viewed (get_or found 5 None)) (viewed (get_or found 6 None)) (viewed (get_or found 7 None)) (viewed (get_or found 8 None))) }
 {
-    let out_start = values.number(position, 5)?;
-    let in_start = values.number(position, 6)?;
+    let out_start = values.number_or_0(position, 5)?;
+    let in_start = values.number_or_0(position, 6)?;
     let (first, last) = values.indices(7);
     let outputs = pdos_in(alloc, position, values.at(7), first, last)?;
     let (first, last) = values.indices(8);
@@ -129,7 +135,7 @@ fn process_in(
     })
 }
 
-/// Vendor, product and revision.
+/// Vendor, product and revision, which is 0 if it is left out.
 #[tactic(auto, unfolding(crate::specs::Reading::device_in))]
 fn device_in(position: Position, values: &Values<'_>) -> Result<Device, Fault>
     requires { values.now.shape ≡ shape.Type }
@@ -139,7 +145,7 @@ fn device_in(position: Position, values: &Values<'_>) -> Result<Device, Fault>
     Ok(Device {
         vendor: values.number(position, 1)?,
         product: values.number(position, 2)?,
-        revision: values.number(position, 3)?,
+        revision: values.number_or_0(position, 3)?,
     })
 }
 
@@ -171,17 +177,4 @@ fn mailbox_of(position: Position, value: &Value) -> Result<Mailbox, Fault>
         send_start: send_start as u16,
         send_size: send_size as u16,
     })
-}
-
-/// A truth value, true if it is left out.
-fn truth_in(position: Position, value: Option<&Value>) -> Result<bool, Fault>
-    ensures { result ≡ truth_in position (viewed value.entry) }
-{
-    let Some(value) = value else {
-        return Ok(true);
-    };
-    match value.as_bool() {
-        Some(truth) => Ok(truth),
-        None => Err(Fault::BadValue(position)),
-    }
 }

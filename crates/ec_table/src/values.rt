@@ -4,15 +4,14 @@ ghost use Rattle.std.specs.List.{list_all, position, zip};
 ghost use Rattle.std.specs.Option.{option_or};
 ghost use Rattle.std.specs.Str.{bytes_eq};
 ghost use Rattle.toml.specs.View.{view, table_view};
-ghost use Rattle.ec_table.specs.Fields.{keys_are, number_in, number_or_0, viewed};
+ghost use Rattle.ec_table.specs.Fields.{full_format, keys_are, number_in, number_or_0, viewed};
 ghost use Rattle.ec_table.specs.Keys.{index_range, names_of, number_range, rule_at};
 ghost use Rattle.ec_table.specs.Values.{AreUnder};
-ghost use Rattle.ec_table.specs.declared.rows.Version.TheVariants.{Two};
 
 use crate::fault::{Fault, Position};
 use crate::fields::{are_same, number_in, number_or_0};
 use crate::keys::{Key, MAX_KEYS, Shape};
-use crate::rows::Version;
+use crate::rows::Format;
 use toml::Value;
 
 /// The values under the keys of a table, in the order of its shape's keys, none for a key that the table doesn't have.
@@ -25,7 +24,7 @@ pub struct Values<'a> {
 impl<'a> Values<'a> {
     /// The value under the key at a place.
     pub fn at(&self, place: usize) -> Option<&'a Value>
-        requires { place < 10 }
+        requires { place < 14 }
         ensures { result ≡ get_or self.now.found place None }
     {
         let found = &self.found[..];
@@ -34,7 +33,7 @@ impl<'a> Values<'a> {
 
     /// The number under the key at a place, in the key's range, or the fault `BadValue`.
     pub fn number(&self, position: Position, place: usize) -> Result<u32, Fault>
-        requires { place < 10 }
+        requires { place < 14 }
         ensures value { let range = number_range (rule_at self.now.shape place) in
             result ≡ number_in position range.0 range.1 (viewed (get_or self.now.found place None)) }
         ensures range { let range = number_range (rule_at self.now.shape place) in
@@ -46,7 +45,7 @@ impl<'a> Values<'a> {
 
     /// The number under the key at a place, up to the most that the key takes, 0 if it is left out.
     pub fn number_or_0(&self, position: Position, place: usize) -> Result<u32, Fault>
-        requires { place < 10 }
+        requires { place < 14 }
         ensures value { let range = number_range (rule_at self.now.shape place) in
             result ≡ number_or_0 position range.1 (viewed (get_or self.now.found place None)) }
         ensures range { let range = number_range (rule_at self.now.shape place) in
@@ -64,30 +63,30 @@ impl<'a> Values<'a> {
     }
 }
 
-/// The values under the keys of a table; none if some key isn't known in this version of the format, or one is missing that
+/// The values under the keys of a table; none if some key isn't known in this format, or one is missing that
 /// the table must have.
-pub fn values_of<'a>(shape: Shape, version: Version, members: &'a toml::Table) -> Option<Values<'a>>
-    ensures keys { is_some result ≡ keys_are shape version (table_view members.now) }
+pub fn values_of<'a>(shape: Shape, format: Format, members: &'a toml::Table) -> Option<Values<'a>>
+    ensures keys { is_some result ≡ keys_are shape format (table_view members.now) }
     ensures shape { IfSome result (λ v. v.shape ≡ shape) }
-    ensures values { IfSome result (λ v. AreUnder v.found 0 (names_of shape Two) (table_view members.now)) }
+    ensures values { IfSome result (λ v. AreUnder v.found 0 (names_of shape full_format) (table_view members.now)) }
 {
     let mut found = [None; MAX_KEYS];
     for (key, value) in members.iter() {
-        let place = place_of(shape, version, key.as_str())?;
+        let place = place_of(shape, format, key.as_str())?;
         found[place] = first(found[place], value);
     }
-    if has_needed(shape.keys(version), &found) {
+    if has_needed(shape.keys(format), &found) {
         Some(Values { shape, found })
     } else {
         None
     }
 }
 
-/// The place of a name among the keys of a shape in a version of the format.
-fn place_of(shape: Shape, version: Version, name: &str) -> Option<usize>
-    ensures { result ≡ position (bytes_eq name.now) (names_of shape version) }
+/// The place of a name among the keys of a shape in a format.
+fn place_of(shape: Shape, format: Format, name: &str) -> Option<usize>
+    ensures { result ≡ position (bytes_eq name.now) (names_of shape format) }
 {
-    place_among(shape.keys(version), name)
+    place_among(shape.keys(format), name)
 }
 
 /// The place of a name among keys.

@@ -8,10 +8,10 @@ ghost use Rattle.ec_table.specs.InOrder.{Gives, rows_after};
 ghost use Rattle.ec_table.specs.Reading.{variable_at, variable_element};
 
 use crate::fault::{Fault, Position, Section, TableError};
-use crate::fields::name_in;
+use crate::fields::{name_in, truth_in};
 use crate::keys::Shape;
 use crate::named::{Named, NamedRows};
-use crate::rows::{Direction, Name, VariableRow, Version};
+use crate::rows::{Direction, Format, Name, VariableRow};
 use crate::values::values_of;
 use std::alloc::Global;
 use toml::Value;
@@ -28,14 +28,14 @@ impl Named for VariableRow {
 #[tactic(auto, using(crate::proofs::SectionRows::rows_left))]
 pub fn variables_of(
     alloc: Global,
-    version: Version,
+    format: Format,
     elements: Vec<Value>,
 ) -> Result<NamedRows<VariableRow>, TableError>
-    ensures { Gives result (rows_after (variable_element version) [] 0 (items_view elements.items)) }
+    ensures { Gives result (rows_after (variable_element format) [] 0 (items_view elements.items)) }
 {
     let mut found = NamedRows::new(alloc);
     for value in elements {
-        let row = variable_element(version, found.len(), &value, &found)?;
+        let row = variable_element(format, found.len(), &value, &found)?;
         found = found.with(row)?;
     }
     Ok(found)
@@ -43,12 +43,12 @@ pub fn variables_of(
 
 /// The variable that an element of the section states. No variable in `found` has its name.
 fn variable_element(
-    version: Version,
+    format: Format,
     element: usize,
     value: &Value,
     found: &NamedRows<VariableRow>,
 ) -> Result<VariableRow, Fault>
-    ensures value { result ≡ variable_element version element (view value.now) found.now }
+    ensures value { result ≡ variable_element format element (view value.now) found.now }
     ensures fresh { IfOk result (λ w. is_named (λ (w : VariableRow). w.name) w.name found.now ≡ false) }
 {
     let position = Position {
@@ -56,7 +56,7 @@ fn variable_element(
         element,
     };
     match value.as_table() {
-        Some(members) => variable_at(version, position, members, found),
+        Some(members) => variable_at(format, position, members, found),
         None => Err(Fault::BadValue(position)),
     }
 }
@@ -64,20 +64,21 @@ fn variable_element(
 /// The variable that the members of an element state, or their first fault.
 #[tactic(auto, unfolding(crate::specs::Reading::variable_at))]
 fn variable_at(
-    version: Version,
+    format: Format,
     position: Position,
     members: &toml::Table,
     found: &NamedRows<VariableRow>,
 ) -> Result<VariableRow, Fault>
-    ensures value { result ≡ variable_at version position (table_view members.now) found.now }
+    ensures value { result ≡ variable_at format position (table_view members.now) found.now }
     ensures fresh { IfOk result (λ w. is_named (λ (w : VariableRow). w.name) w.name found.now ≡ false) }
 {
-    let Some(values) = values_of(Shape::Variable, version, members) else {
+    let Some(values) = values_of(Shape::Variable, format, members) else {
         return Err(Fault::BadKey(position));
     };
     let name = name_in(position, values.at(0))?;
     let direction = direction_in(position, values.at(1))?;
     let bits = values.number(position, 2)?;
+    let signed = truth_in(position, false, values.at(3))?;
     if found.has(&name) {
         return Err(Fault::TwiceNamed(position));
     }
@@ -85,6 +86,7 @@ fn variable_at(
         name,
         direction,
         bits: bits as u8,
+        signed,
     })
 }
 

@@ -1,5 +1,5 @@
 -- The variables of a table as a C header (this project's profile). Numbers are decimal.
-use Rattle.std.specs.Prelude.{ℕ, List, Option, None, Some, if◌then◌else◌, length, nat_le, slice_get, ◌++◌, codes}
+use Rattle.std.specs.Prelude.{ℕ, Bool, true, false, List, Option, None, Some, if◌then◌else◌, length, nat_le, slice_get, ◌++◌, codes}
 use Rattle.std.specs.Fmt.{decimal}
 use Rattle.ec_link.specs.declared.image.Variable.{Variable}
 use Rattle.ec_table.specs.declared.rows.Direction.{Direction}
@@ -12,11 +12,25 @@ abbrev pub flag : Direction → ℕ
 flag Out = 1
 flag In = 0
 
--- the C type that holds a value of so many bits
-abbrev pub c_type : ℕ → List ℕ
-c_type bits =
+-- 1 for a signed variable, 0 for any other
+abbrev pub sign : Bool → ℕ
+sign true = 1
+sign false = 0
+
+-- the C type that holds a value of so many bits, with a sign or without
+abbrev pub signed_type : ℕ → List ℕ
+signed_type bits =
+    if nat_le bits 8 then codes "int8_t"
+    else (if nat_le bits 16 then codes "int16_t" else (if nat_le bits 32 then codes "int32_t" else codes "int64_t"))
+
+abbrev pub unsigned_type : ℕ → List ℕ
+unsigned_type bits =
     if nat_le bits 8 then codes "uint8_t"
     else (if nat_le bits 16 then codes "uint16_t" else (if nat_le bits 32 then codes "uint32_t" else codes "uint64_t"))
+
+abbrev pub c_type : (signed : Bool) → ℕ → List ℕ
+c_type true bits = signed_type bits
+c_type false bits = unsigned_type bits
 
 -- the first bit in the image of its direction
 abbrev pub offset_of : Option Variable → ℕ
@@ -33,10 +47,11 @@ size_lines prefix n row =
     define_line prefix (codes "NUMBER") row.name (decimal n) ++ define_line prefix (codes "BITS") row.name (decimal row.bits)
     ++ define_line prefix (codes "OUTPUT") row.name (decimal (flag row.direction))
 
--- its type; that it is not signed, as no table says otherwise yet; and its first bit in the image
+-- its type, whether it is signed, and its first bit in the image
 unfoldable pub form_lines : List ℕ → ℕ → VariableRow → List ℕ
 form_lines prefix offset row =
-    define_line prefix (codes "TYPE") row.name (c_type row.bits) ++ define_line prefix (codes "SIGNED") row.name (decimal 0)
+    define_line prefix (codes "TYPE") row.name (c_type row.signed row.bits)
+    ++ define_line prefix (codes "SIGNED") row.name (decimal (sign row.signed))
     ++ define_line prefix (codes "OFFSET") row.name (decimal offset)
 
 -- A variable, and its place by the plan. No name is defined twice: one that begins with one of the six words has the variable's name

@@ -1,7 +1,7 @@
 //! The variables of a table as a C header.
 ghost use Rattle.std.specs.Prelude.{◌≡◌, ◌++◌, IfOk, OnOk, string_bytes, codes, option_map};
 ghost use Rattle.std.specs.Fmt.{decimal};
-ghost use Rattle.ec_text.specs.HeaderText.{c_type, define_line, flag, form_lines, header_text, offset_of, size_lines, variable_lines};
+ghost use Rattle.ec_text.specs.HeaderText.{c_type, define_line, flag, form_lines, header_text, offset_of, sign, signed_type, size_lines, unsigned_type, variable_lines};
 ghost use Rattle.ec_text.specs.PlanText.{lines_from};
 
 use ec_link::{Plan, Variable};
@@ -10,8 +10,8 @@ use std::alloc::{AllocError, Global};
 use std::fmt::Write as _;
 
 /// The variables of a table as a C header, for programs that use the library; `plan` is that of the table. For each variable, in file
-/// order, it defines the number, the bits, 1 for an output or 0 for an input, the C type, 0 since it has no sign, and the first bit in
-/// the image of its direction. Their names are the variable's behind the prefix and a word. The prefix and `VARIABLES` is the name
+/// order, it defines the number, the bits, 1 for an output or 0 for an input, the C type, 1 if it is signed or else 0, and the first bit
+/// in the image of its direction. Their names are the variable's behind the prefix and a word. The prefix and `VARIABLES` is the name
 /// of how many variables there are.
 ///
 /// # Errors
@@ -95,8 +95,8 @@ fn write_form(
     ensures { OnOk result (string_bytes text.new ≡ string_bytes text.old ++ form_lines prefix.now offset row.now) }
 {
     let name = row.name.as_str();
-    write_type(text, prefix, name, c_type(row.bits))?;
-    write_number(text, prefix, "SIGNED", name, 0)?;
+    write_type(text, prefix, name, c_type(row.signed, row.bits))?;
+    write_number(text, prefix, "SIGNED", name, sign(row.signed))?;
     write_number(text, prefix, "OFFSET", name, offset)
 }
 
@@ -134,9 +134,42 @@ fn flag(direction: Direction) -> usize
     }
 }
 
-/// The C type that holds a value of so many bits.
-fn c_type(bits: u8) -> &'static str
-    ensures { result.now ≡ c_type bits }
+/// Returns 1 for a signed variable, 0 for any other.
+fn sign(signed: bool) -> usize
+    ensures { result ≡ sign signed }
+{
+    if signed { 1 } else { 0 }
+}
+
+/// The C type that holds a value of so many bits, with a sign or without.
+fn c_type(signed: bool, bits: u8) -> &'static str
+    ensures { result.now ≡ c_type signed bits }
+{
+    if signed {
+        signed_type(bits)
+    } else {
+        unsigned_type(bits)
+    }
+}
+
+/// The C type that holds a signed value of so many bits.
+fn signed_type(bits: u8) -> &'static str
+    ensures { result.now ≡ signed_type bits }
+{
+    if bits <= 8 {
+        "int8_t"
+    } else if bits <= 16 {
+        "int16_t"
+    } else if bits <= 32 {
+        "int32_t"
+    } else {
+        "int64_t"
+    }
+}
+
+/// The C type that holds an unsigned value of so many bits.
+fn unsigned_type(bits: u8) -> &'static str
+    ensures { result.now ≡ unsigned_type bits }
 {
     if bits <= 8 {
         "uint8_t"

@@ -28,35 +28,31 @@ pub fn input_lines(alloc: Global, table: &Table, master: &Master<'_>) -> Result<
     ensures { IfOk result (λ text. string_bytes text ≡ inputs_text (value_of_variable master.now) table.now) }
 {
     let mut text = String::new(alloc);
-    write_inputs(&mut text, master, table.variables())?;
+    write_inputs(&mut text, master, table)?;
     Ok(text)
 }
 
-/// Adds the line of a variable and its value, if it is an input.
-fn write_input(text: &mut String, row: &VariableRow, value: u64) -> Result<(), AllocError>
+/// Adds the line of a variable and the number that its value is, if it is an input.
+fn write_input(text: &mut String, row: &VariableRow, number: i128) -> Result<(), AllocError>
     ensures { OnOk result (string_bytes text.new
-        ≡ string_bytes text.old ++ input_by row.now.direction value row.now.name) }
+        ≡ string_bytes text.old ++ input_by row.now.direction number row.now.name) }
 {
     match row.direction {
         Direction::Out => Ok(()),
         Direction::In => {
             let name = row.name.as_str();
-            writeln!(text, "{name} {value}")
+            writeln!(text, "{name} {number}")
         }
     }
 }
 
 /// Adds the lines of the input variables of a master.
-fn write_inputs(
-    text: &mut String,
-    master: &Master<'_>,
-    rows: &[VariableRow],
-) -> Result<(), AllocError>
+fn write_inputs(text: &mut String, master: &Master<'_>, table: &Table) -> Result<(), AllocError>
     ensures { OnOk result (string_bytes text.new
-        ≡ string_bytes text.old ++ lines_from (input_line (value_of_variable master.now)) 0 rows.now) }
+        ≡ string_bytes text.old ++ lines_from (input_line table.now (value_of_variable master.now)) 0 table.now.variables) }
 {
-    for (index, row) in rows.iter().enumerate() {
-        write_input(text, row, value_of(master, index))?;
+    for (index, row) in table.variables().iter().enumerate() {
+        write_input(text, row, table.number(index, value_of(master, index)))?;
     }
     Ok(())
 }

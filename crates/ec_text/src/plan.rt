@@ -3,15 +3,18 @@ ghost use Rattle.std.specs.Prelude.{◌≡◌, ◌++◌, IfOk, OnOk, string_byte
 ghost use Rattle.ec_text.specs.PlanText.{fmmu_line, lines_from, manager_line, part_line, plan_text, planned_part_line, record_line, slave_line, slave_lines, unit_text};
 
 use crate::digits::write_counter;
+use ec_device::SlaveType;
 use ec_link::{ExpectedCounters, PartPlan, Plan, SlavePlan};
-use ec_regs::{FmmuSettings, SyncManagerSettings, encode_fmmu, encode_manager};
+use ec_regs::{
+    FmmuSettings, SyncManagerSettings, encode_fmmu, encode_manager, shown_fmmu, shown_manager,
+};
 use ec_table::Version;
 use std::alloc::{AllocError, Global};
 use std::fmt::Write as _;
 
 /// The plan of a table of this version as a text. Each slave has a line with its part, and how many
 /// output and input bits it has. Its sync managers that are set and its FMMUs that are active follow, by
-/// number, with their register bytes in hex. Behind all slaves, each part has a line with its first
+/// number, with the bytes of the device's registers in hex. Behind all slaves, each part has a line with its first
 /// logical byte, its bytes, and the working counters of its frame. Numbers are decimal. In version 2 a
 /// part's line ends in its sync unit. `AllocError` if memory ran out.
 pub fn plan_text(alloc: Global, version: Version, plan: &Plan) -> Result<String, AllocError>
@@ -47,8 +50,9 @@ fn write_slave(
         (string_bytes text.new ≡ string_bytes text.old ++ slave_lines number slave.now) }
 {
     write_sizes(text, number, slave)?;
-    write_managers(alloc, text, slave.managers.as_slice())?;
-    write_fmmus(alloc, text, slave.fmmus.as_slice())
+    let managers = slave.managers_by_number();
+    write_managers(alloc, text, &slave.kind, managers.as_slice())?;
+    write_fmmus(alloc, text, &slave.kind, slave.fmmus.as_slice())
 }
 
 /// Adds the line of a slave's part and sizes.
@@ -57,19 +61,23 @@ fn write_sizes(text: &mut String, number: usize, slave: &SlavePlan) -> Result<()
     ensures { OnOk result
         (string_bytes text.new ≡ string_bytes text.old ++ slave_line number slave.now) }
 {
-    let share = slave.share;
-    let (part, outs, ins) = (share.part, share.outs, share.ins);
+    let (part, outs, ins) = (slave.share.part, slave.bits.outs, slave.bits.ins);
     writeln!(text, "slave {number} part {part} out {outs} in {ins}")
 }
 
 /// Adds the lines of a slave's FMMUs.
 #[tactic(auto, using(crate::proofs::Lines::line_steps))]
-fn write_fmmus(alloc: Global, text: &mut String, fmmus: &[FmmuSettings]) -> Result<(), AllocError>
+fn write_fmmus(
+    alloc: Global,
+    text: &mut String,
+    kind: &SlaveType,
+    fmmus: &[FmmuSettings],
+) -> Result<(), AllocError>
     ensures { OnOk result
-        (string_bytes text.new ≡ string_bytes text.old ++ lines_from fmmu_line 0 fmmus.now) }
+        (string_bytes text.new ≡ string_bytes text.old ++ lines_from (fmmu_line kind.now.hardware) 0 fmmus.now) }
 {
     for (number, fmmu) in fmmus.iter().enumerate() {
-        write_fmmu(alloc, text, number, fmmu)?;
+        write_fmmu(alloc, text, kind, number, fmmu)?;
     }
     Ok(())
 }
@@ -79,13 +87,14 @@ fn write_fmmus(alloc: Global, text: &mut String, fmmus: &[FmmuSettings]) -> Resu
 fn write_managers(
     alloc: Global,
     text: &mut String,
+    kind: &SlaveType,
     managers: &[SyncManagerSettings],
 ) -> Result<(), AllocError>
     ensures { OnOk result
-        (string_bytes text.new ≡ string_bytes text.old ++ lines_from manager_line 0 managers.now) }
+        (string_bytes text.new ≡ string_bytes text.old ++ lines_from (manager_line kind.now.hardware) 0 managers.now) }
 {
     for (number, manager) in managers.iter().enumerate() {
-        write_manager(alloc, text, number, manager)?;
+        write_manager(alloc, text, kind, number, manager)?;
     }
     Ok(())
 }
@@ -95,14 +104,16 @@ fn write_managers(
 fn write_fmmu(
     alloc: Global,
     text: &mut String,
+    kind: &SlaveType,
     number: usize,
     fmmu: &FmmuSettings,
 ) -> Result<(), AllocError>
     ensures { OnOk result
-        (string_bytes text.new ≡ string_bytes text.old ++ fmmu_line number fmmu.now) }
+        (string_bytes text.new ≡ string_bytes text.old ++ fmmu_line kind.now.hardware number fmmu.now) }
 {
     if fmmu.active {
-        write_record(alloc, text, "fmmu", number, &encode_fmmu(fmmu))
+        let bytes = encode_fmmu(&shown_fmmu(kind, *fmmu));
+        write_record(alloc, text, "fmmu", number, &bytes)
     } else {
         Ok(())
     }
@@ -113,14 +124,16 @@ fn write_fmmu(
 fn write_manager(
     alloc: Global,
     text: &mut String,
+    kind: &SlaveType,
     number: usize,
     manager: &SyncManagerSettings,
 ) -> Result<(), AllocError>
     ensures { OnOk result
-        (string_bytes text.new ≡ string_bytes text.old ++ manager_line number manager.now) }
+        (string_bytes text.new ≡ string_bytes text.old ++ manager_line kind.now.hardware number manager.now) }
 {
     if manager.is_set() {
-        write_record(alloc, text, "sm", number, &encode_manager(manager))
+        let bytes = encode_manager(&shown_manager(kind, *manager));
+        write_record(alloc, text, "sm", number, &bytes)
     } else {
         Ok(())
     }

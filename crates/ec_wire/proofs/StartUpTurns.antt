@@ -10,21 +10,24 @@ use Rattle.ec_start.specs.declared.phase.NextFrame.{NextFrame}
 use Rattle.ec_start.specs.declared.phase.NextFrame.TheVariants.{Send, Waiting, Ended}
 use Rattle.ec_start.specs.declared.error.StartError.TheVariants.{TooSlow, NumbersSpent}
 use Rattle.ec_start.specs.declared.verdict.Verdict.{Verdict}
-use Rattle.ec_start.specs.declared.verdict.Verdict.TheVariants.{Next, Word, Again, Fails}
+use Rattle.ec_start.specs.declared.verdict.Verdict.TheVariants.{Next, Word, Fed, Again, Fails}
 use Rattle.ec_start.specs.Verdicts.{verdict}
 use Rattle.ec_start.specs.Running.{StartState, Shape, shape, IsStartTaken, action_of, asked, asked_by, next_frame, next_frame_by, given_up, given_up_by, is_ended, judged, last_number, second, sending, taken, type_of}
+use Rattle.ec_start.specs.Laws.{HasSamePlan}
+use Rattle.ec_start.proofs.LawLemmas.{plans_stay}
 use Rattle.ec_wire.specs.Wires.{WireState}
 use Rattle.ec_wire.specs.BringingUp.{AreForeign, IsAnswered, IsBroughtUp, IsNextFrame, IsTurn, IsUnanswered, Rests, Waits, Loses, Goes}
 
 -- ---- numbers
 
-again-next : (s : StartState) (b : Bool) → (let t : StartState = if b then record s { phase = Failed (TooSlow s.place) } else record s { polls = s.polls + 1; phase = Idle } in t.next) ≡ s.next
+again-next : (s : StartState) (b : Bool) → (let t : StartState = if b then record s { phase = Failed (TooSlow s.place) } else record s { fed = 0; polls = s.polls + 1; phase = Idle } in t.next) ≡ s.next
 again-next s true = refl
 again-next s false = refl
 
 judged-next : (s : StartState) (x : Verdict) → (judged s x).next ≡ s.next
 judged-next s Next = refl
 judged-next s (Word value) = refl
+judged-next s Fed = refl
 judged-next s Again = again-next s (s.polls + 1 == 1000)
 judged-next s (Fails f) = refl
 
@@ -100,42 +103,37 @@ brought_ended _ _ _ _ (Goes s t e w v x k up) = brought_ended t e v x up
 
 -- ---- the plan
 
-again-plan : (s : StartState) (b : Bool) → (let t : StartState = if b then record s { phase = Failed (TooSlow s.place) } else record s { polls = s.polls + 1; phase = Idle } in t.plan) ≡ s.plan
-again-plan s true = refl
-again-plan s false = refl
+one-more : (s t u : StartState) → HasSamePlan s t → HasSamePlan t u → HasSamePlan s u
+one-more s t u h k = record { plan = k.plan ∙ h.plan; feeds = k.feeds ∙ h.feeds }
 
-judged-plan : (s : StartState) (x : Verdict) → (judged s x).plan ≡ s.plan
-judged-plan s Next = refl
-judged-plan s (Word value) = refl
+again-plan : (s : StartState) (b : Bool) → HasSamePlan s (if b then record s { phase = Failed (TooSlow s.place) } else record s { fed = 0; polls = s.polls + 1; phase = Idle })
+again-plan s true = record { plan = refl; feeds = refl }
+again-plan s false = record { plan = refl; feeds = refl }
+
+judged-plan : (s : StartState) (x : Verdict) → HasSamePlan s (judged s x)
+judged-plan s Next = record { plan = refl; feeds = refl }
+judged-plan s (Word value) = record { plan = refl; feeds = refl }
+judged-plan s Fed = record { plan = refl; feeds = refl }
 judged-plan s Again = again-plan s (s.polls + 1 == 1000)
-judged-plan s (Fails f) = refl
+judged-plan s (Fails f) = record { plan = refl; feeds = refl }
 
-kept-plan : (s t : StartState) (payload : List ℕ) → IsStartTaken s payload true t → t.plan ≡ s.plan
+kept-plan : (s t : StartState) (payload : List ℕ) → IsStartTaken s payload true t → HasSamePlan s t
 kept-plan s t payload h =
     let o = h.only refl in
     let d = has-second o.frame.datagrams _ _ o.answer.shapes in
-    ap (λ (x : StartState). x.plan) (h.kept o.frame d.0 refl o.spelled d.1) ∙ judged-plan s (verdict (length s.plan) s.place s.seen (type_of s.plan) (action_of s) d.0)
+    subst (HasSamePlan s) (sym (h.kept o.frame d.0 refl o.spelled d.1)) (judged-plan s (verdict (length s.plan) s.place s.seen (type_of s.plan) (action_of s) d.0))
 
-asked-plan : (s : StartState) (p : Phase) → (asked_by s p).plan ≡ s.plan
-asked-plan s Idle = elim (cases_eq s.next last_number) [
-  | inl z ↦ ap (λ (x : StartState). x.plan) (if_true (s.next == last_number) (record s { phase = Failed NumbersSpent }) (sending s) (eq-eqb s.next last_number z))
-  | inr n ↦ ap (λ (x : StartState). x.plan) (if_false (s.next == last_number) (record s { phase = Failed NumbersSpent }) (sending s) (ne_eqb s.next last_number n))
-]
-asked-plan s (Sent number) = refl
-asked-plan s Ready = refl
-asked-plan s (Failed error) = refl
+asked-plan : (s : StartState) → HasSamePlan s (asked s)
+asked-plan s = (plans_stay s).next_keeps
 
-given-up-plan : (s : StartState) (p : Phase) → (given_up_by s p).plan ≡ s.plan
-given-up-plan s Idle = refl
-given-up-plan s (Sent number) = refl
-given-up-plan s Ready = refl
-given-up-plan s (Failed error) = refl
+given-up-plan : (s : StartState) → HasSamePlan s (given_up s)
+given-up-plan s = (plans_stay s).give_up_keeps
 
-pub brought_plan : (s e : StartState) (w x : WireState) → IsBroughtUp s w e x → e.plan ≡ s.plan
-brought_plan _ _ _ _ (Rests s w f) = asked-plan s s.phase
-brought_plan _ _ _ _ (Waits s w f) = given-up-plan s s.phase
-brought_plan _ _ _ _ (Loses s w v frame f n u) = given-up-plan (asked s) (asked s).phase ∙ asked-plan s s.phase
-brought_plan _ _ _ _ (Goes s t e w v x k up) = brought_plan t e v x up ∙ (kept-plan (asked s) t k.answered.answer k.answered.kept ∙ asked-plan s s.phase)
+pub brought_plan : (s e : StartState) (w x : WireState) → IsBroughtUp s w e x → HasSamePlan s e
+brought_plan _ _ _ _ (Rests s w f) = asked-plan s
+brought_plan _ _ _ _ (Waits s w f) = given-up-plan s
+brought_plan _ _ _ _ (Loses s w v frame f n u) = one-more s (asked s) (given_up (asked s)) (asked-plan s) (given-up-plan (asked s))
+brought_plan _ _ _ _ (Goes s t e w v x k up) = one-more s t e (one-more s (asked s) t (asked-plan s) (kept-plan (asked s) t k.answered.answer k.answered.kept)) (brought_plan t e v x up)
 
 -- ---- payloads that don't answer
 

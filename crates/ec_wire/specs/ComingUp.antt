@@ -1,10 +1,12 @@
 -- A start-up over a wire that carries each frame past all slaves and back.
-use Rattle.std.specs.Prelude.{ℕ, ◌+◌, ◌≤◌, ◌≡◌, List, length, true, false}
+use Rattle.std.specs.Prelude.{ℕ, ◌+◌, ◌≤◌, ◌≡◌, List, true, false}
 use Rattle.ec_slave.specs.State.{SlaveState}
 use Rattle.ec_link.specs.declared.settings.SlavePlan.{SlavePlan}
+use Rattle.ec_start.specs.declared.action.Feed.{Feed}
 use Rattle.ec_start.specs.Scripts.{script}
+use Rattle.ec_start.specs.Feeding.{frames_of}
 use Rattle.ec_start.specs.Running.{StartState, begun, last_number}
-use Rattle.ec_bringup.specs.Undisturbed.{ArePlans, AreDevices}
+use Rattle.ec_bringup.specs.Undisturbed.{ArePlansWith, AreDevices}
 use Rattle.ec_bringup.specs.BringUp.{rising}
 use Rattle.ec_bringup.specs.ComesUp.{IsUpAndWorks}
 use Rattle.ec_wire.specs.Wires.{WireState, Carries, is_fault, has_payloads}
@@ -25,9 +27,9 @@ pub record IsCarriedPast (old new : WireState) (before after : List SlaveState) 
   pub carried : Carries old new sent received
   pub treated : AreTreated AnyInputs before sent after received
 
--- Over such a wire, with devices of its types in any state at the other end, a new start-up of a complete plan ends Ready. It sends one
--- frame for each action of its script, and then every slave works as planned.
+-- Over such a wire, with devices of its types in any state at the other end, a new start-up of a complete plan ends Ready. It sends
+-- `frames_of` its script, and then every slave works as planned.
 abbrev pub ComesUpOver : (s e : StartState) (old new : WireState) → Type 0
 ComesUpOver s e old new =
-    (ps : List SlavePlan) (from : ℕ) (before after : List SlaveState) → ArePlans ps → s ≡ begun ps from → AreDevices ps before → from + length (script ps) ≤ last_number
-    → IsCarriedPast old new before after → IsUpAndWorks ps (from + length (script ps)) (rising e after)
+    (ps : List SlavePlan) (fs : List Feed) (from : ℕ) (before after : List SlaveState) → ArePlansWith ps fs → s ≡ begun ps fs from → AreDevices ps before → from + frames_of fs (script ps) ≤ last_number
+    → IsCarriedPast old new before after → IsUpAndWorks ps (from + frames_of fs (script ps)) (rising e after)

@@ -28,6 +28,7 @@ pub use crate::error::{RunError, SocketFault};
 pub use crate::loopback::{LoopWire, Loopback};
 pub use crate::lossy::run_lossy_cycle;
 pub use crate::memory::MemoryWire;
+pub use crate::pace::{Pace, Resting, Restless};
 pub use crate::patience::{Patience, PatientSocket};
 pub use crate::payload::Payload;
 pub use crate::segment::{Served, serve_counted, serve_idle, serve_segment};

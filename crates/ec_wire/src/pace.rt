@@ -2,8 +2,8 @@
 ghost use Rattle.std.specs.Prelude.{◌≡◌};
 ghost use Rattle.ec_wire.specs.Resting.{rest_behind};
 
-use ec_frame::Frame;
 use ec_frame::field::{FRAME_HEADER_LEN, INDEX, NAME_LEN, OVERHEAD};
+use ec_frame::{Command, Frame};
 use std::thread;
 use std::time::{Clock, Duration};
 
@@ -46,6 +46,10 @@ impl<'c, C: Clock> Resting<'c, C> {
 
 impl<C: Clock> Pace for Resting<'_, C> {
     fn before(&mut self, frame: &Frame) {
+        // it belongs to the poll behind it
+        if feeds_part(frame.as_slice()) {
+            return;
+        }
         if !asks_again(self.last.as_slice(), frame.as_slice()) {
             self.last.clear();
             let _ = self.last.try_extend_from_slice(frame.as_slice());
@@ -71,6 +75,12 @@ fn rest_behind(polls: u32) -> u8
     } else {
         10
     }
+}
+
+/// Whether a frame of a start-up feeds a part: no other has a logical command.
+fn feeds_part(frame: &[u8]) -> bool {
+    frame.len() > ASKING
+        && (frame[ASKING] == Command::Lwr.number() || frame[ASKING] == Command::Lrw.number())
 }
 
 /// Whether a frame of a start-up asks what the frame before it asked: only the names and the indices differ.

@@ -1,6 +1,7 @@
 //! A start-up over a wire.
 ghost use Rattle.std.specs.Prelude.{◌≡◌, true, false};
 ghost use Rattle.ec_start.specs.Running.{is_ended};
+ghost use Rattle.ec_start.specs.Laws.{HasSamePlan};
 ghost use Rattle.ec_wire.specs.BringingUp.{IsAnswered, IsBroughtUp, IsTurn, IsUnanswered};
 ghost use Rattle.ec_wire.specs.ComingUp.{ComesUpOver};
 
@@ -25,7 +26,7 @@ pub fn bring_up_wire<W: Wire>(startup: &mut Startup<'_>, wire: &mut W)
     ensures leads { IsBroughtUp startup.old (W.state wire.old) startup.new (W.state wire.new) }
     ensures up { ComesUpOver startup.old startup.new (W.state wire.old) (W.state wire.new) }
     ensures ended { is_ended startup.new.phase ≡ true }
-    ensures plan { startup.new.plan ≡ startup.old.plan }
+    ensures plan { HasSamePlan startup.old startup.new }
 {
     bring_up_paced(startup, wire, &mut Restless);
 }
@@ -36,7 +37,7 @@ pub fn bring_up_resting<W: Wire, C: Clock>(startup: &mut Startup<'_>, wire: &mut
     ensures leads { IsBroughtUp startup.old (W.state wire.old) startup.new (W.state wire.new) }
     ensures up { ComesUpOver startup.old startup.new (W.state wire.old) (W.state wire.new) }
     ensures ended { is_ended startup.new.phase ≡ true }
-    ensures plan { startup.new.plan ≡ startup.old.plan }
+    ensures plan { HasSamePlan startup.old startup.new }
 {
     bring_up_paced(startup, wire, &mut Resting::new(clock));
 }
@@ -46,7 +47,7 @@ fn bring_up_paced<W: Wire, P: Pace>(startup: &mut Startup<'_>, wire: &mut W, pac
     ensures leads { IsBroughtUp startup.old (W.state wire.old) startup.new (W.state wire.new) }
     ensures up { ComesUpOver startup.old startup.new (W.state wire.old) (W.state wire.new) }
     ensures ended { is_ended startup.new.phase ≡ true }
-    ensures plan { startup.new.plan ≡ startup.old.plan }
+    ensures plan { HasSamePlan startup.old startup.new }
 {
     let mut frame = Frame::new();
     // each turn takes a number

@@ -32,6 +32,7 @@ pub use Rattle.ec_slave.proofs.Commands.CommandLaws.{faults, logical_meet}
 pub use Rattle.ec_slave.proofs.LogicalAccess.MissesLaw.{misses}
 pub use Rattle.ec_slave.proofs.Memory.RegisterLaws.{shows_itself, updated_by_index}
 pub use Rattle.ec_slave.proofs.Always.ValuesStayWhole.{stay_whole}
+pub use Rattle.ec_slave.proofs.Always.HardwareLaws.{nothing_awaited, stays_outside}
 pub use Rattle.ec_slave.proofs.Always.SlavesAreSwitchedOn.{switched_on, on_whole}
 pub use Rattle.ec_ring.specs.Rings.{IsPassedAt, passes_ring}
 pub use Rattle.ec_link.specs.declared.image.Variable.{Variable}
@@ -40,9 +41,10 @@ pub use Rattle.ec_link.specs.declared.plan.ExpectedCounters.TheVariants.{Lrw, Sp
 pub use Rattle.ec_link.specs.declared.plan.PartPlan.{PartPlan}
 pub use Rattle.ec_link.specs.declared.settings.Share.{Share}
 pub use Rattle.ec_link.specs.declared.settings.SlavePlan.{SlavePlan}
-pub use Rattle.ec_link.specs.Interface.{slave_at, AreListed, output_manager, IsUsable, Contents, Meaning, meaning, PlanState, plan_of, same_counters, unit_of_part, predicted, Gave, counters_of, sum_of, lwr_count, lrd_count, lrw_count, whole_share, nothing_given, share_of, Linked, area_at, in_source, span_of_part, part_at, no_part, compile_fault, IsLaid, has_outs, has_ins, out_source, Direction, Out, In, SlaveRow, IsLinked, is_out, image_from, placed, IsPair, AreItsLinks, part_of, IsInImage, HasBit, IsPlaced, image, object_bits, no_slave as no_slave_plan, area_of, process_manager, has_byte, FitsRam, input_manager, fmmu_of as link_fmmu_of, share_in}
+pub use Rattle.ec_link.specs.Interface.{slave_at, AreListed, output_manager, IsUsable, Contents, Meaning, meaning, PlanState, plan_of, same_counters, unit_of_part, predicted, Gave, counters_of, sum_of, lwr_count, lrd_count, lrw_count, whole_share, nothing_given, share_of, Linked, area_at, in_source, span_of_part, part_at, no_part, compile_fault, IsLaid, has_outs, has_ins, out_source, Direction, Out, In, SlaveRow, IsLinked, is_out, image_from, placed, IsPair, AreItsLinks, part_of, IsInImage, HasBit, IsPlaced, image, object_bits, no_slave as no_slave_plan, area_of, process_manager, has_byte, FitsRam, input_manager, fmmu_of as link_fmmu_of, share_in, HasRoom}
 pub use Rattle.ec_link.proofs.PlansHaveTheLinks.{links_are_the_tables}
 pub use Rattle.ec_link.proofs.LinkLaws.{linked_inputs}
+pub use Rattle.ec_link.proofs.MappedBits.{room_law}
 pub use Rattle.ec_link.proofs.SettingsAreListed.{listed}
 pub use Rattle.ec_link.proofs.VariablesArePlaced.{variables_are_placed, linked_bits_are_there}
 pub use Rattle.ec_link.proofs.Soundness.{plan_sound}
@@ -59,6 +61,16 @@ unfoldable pub use Rattle.ec_start.specs.Running.{begun}
 pub use Rattle.ec_start.proofs.Assigned.{startable_is_taken}
 pub use Rattle.ec_start.proofs.LawLemmas.{plans_stay}
 pub use Rattle.ec_start.proofs.ScriptLengths.{scripts_are_short}
+pub use Rattle.ec_start.specs.declared.action.Feed.{Feed}
+pub use Rattle.ec_start.specs.declared.action.Action.{Action}
+pub use Rattle.ec_start.specs.Running.{is_fed}
+unfoldable pub use Rattle.ec_start.specs.Feeding.{feeds_of}
+pub use Rattle.ec_start.specs.Feeding.{feeds_from, frames_of}
+pub use Rattle.ec_start.specs.Scripts.{is_hardware}
+pub use Rattle.ec_start.specs.Laws.{HasSamePlan}
+pub use Rattle.ec_bringup.specs.Instants.{Feeding}
+pub use Rattle.ec_bringup.specs.Fed.{AreFeedsOf}
+pub use Rattle.ec_bringup.proofs.Script.FeedsOfPlans.{parts_can_be_fed}
 pub use Rattle.ec_bringup.specs.Instants.{Starts, Between, UnderWay, Adrift, Over, IsReady}
 pub use Rattle.ec_bringup.specs.Interface.{IsOfType, IsGenuine, AreGenuine, plan_at, slave_of as bringup_slave_of, Rising as BringupRising, turns, no_identity, switched_on as bringup_switched_on, IsUpAndWorks, AreStartable, trouble_at, no_plan, is_beginning, end_of, IsOfKind, unviewed, Config, Starting, kind_at, ends_of, HoldsAll, SlaveHealth, Carried, flags_sent, with_begun, with_slave as with_slave_at, Sends as SendsNext, Passes as PassesOne, Loses as LosesOne, Returns as ReturnsOne, Strays, Closes as ClosesOne, Serves as BringupServes, Puts as PutsOne, Gets as GetsOne, Faults, Resets, all_passed, all_met, turned, IsRound, AreSlaves}
 pub use Rattle.ec_bringup.specs.Slots.{IsCarried}
@@ -69,7 +81,7 @@ pub use Rattle.ec_bringup.proofs.OneSlave.DevicesLaw.{stay, stays}
 pub use Rattle.ec_bringup.proofs.OneSlave.SlavesOfLaw.{of-types, with-types}
 pub use Rattle.ec_bringup.proofs.OneSlave.Reset.{power_on_is}
 pub use Rattle.ec_bringup.proofs.AllSlaves.RoundLaw.{round}
-pub use Rattle.ec_bringup.proofs.StartUp.StartUpLaw.{ready-shown, taken-plan, happens-starts, begun-starts, frame-passes}
+pub use Rattle.ec_bringup.proofs.StartUp.StartUpLaw.{ready-shown, happens-on, begun-starts, frame-passes}
 pub use Rattle.ec_cycle.specs.declared.error.CycleError.{CycleError}
 pub use Rattle.ec_cycle.specs.Interface.{nones, OpenCycle, cycle_limit, ReturnedPart, is_good, unit_taken, bytes_of, returned_bit, inputs_closed, report_of, returned_part_of, Answers, IsReturned, MasterState, readied, sent_datagrams, Begun, frame_of as cycle_frame_of, bytes_at, name_datagram, status_datagram, process_datagrams, process_bytes, returned_first, ReportState, value_at, value_of, joined, word_of_returned, IsAnswer, IsTaken, closed, holds_value, value_put, variable_set, process_datagram, all_from, name_of, with_returned, cyclic_datagrams}
 pub use Rattle.ec_cycle.proofs.AnswersFrame.{names_tell}
@@ -86,7 +98,7 @@ pub use Rattle.ec_world.specs.Lengths.{IsOfLength}
 pub use Rattle.ec_world.specs.NewWorld.{IsTurn, AreTurns, BringUp, IsToStart, IsBroughtUp, NewLaw, MachineLaw, rising_of, IsRest, Passes as NewWorldPasses, Returns as NewWorldReturns, Serves, Ends, servings, TurnLaw}
 pub use Rattle.ec_world.specs.Plain.{Plain, PlainSlave, Health, Working, Faulted, Reset, plain_slave, no_plain_slave, is_working, failing, restarting, at_slave, is_reset, got_byte, PlainFrame, Cycle, unit_full, step, run, frame_at, filled, new_frames, progress_of, moved, keeping, with_note, met_note, all_progress, is_older, lets_by, may_pass, may_return, Note, Other, Short, Full, is_full, all_full, noted_bit, notes_of_part, taken_bit, inputs_taken, linked_outputs, with_slot, giving, met_slave, passing, losing, taking, setting, beginning, closing, Closed, returning}
 pub use Rattle.ec_world.specs.Promises.{IsBegun, IsClosedAs, IsCounted, FallsShort, QuietLaw, unit_of_slave, is_of_unit, holds_of_unit, still_comes, is_awaited, disturbs, IsNoted, IsMissed, NotBack, FellShort, IsNotedAt, IsQuiet as PromisesIsQuiet, AreLinked, SnapshotsLaw, WorkingLaw, has_outputs_for, IsPublished, OutputsLaw, NotesLaw, InputsLaw, PublishedLaw, TakenLaw, HasNoFrame}
-pub use Rattle.ec_world.specs.Rising.{Rising, SlotsHold, starting_of, IsInSlot}
+pub use Rattle.ec_world.specs.Rising.{Rising, SlotsHold, starting_of, IsInSlot, IsFit}
 pub use Rattle.ec_world.specs.RunLaws.{OrderLaw, OneOutcomeLaw, TroubleLaw, BegunOnceLaw, PassedOnceLaw}
 pub use Rattle.ec_world.specs.Refines.{Refines, CyclesRefine, CycleRefines, said, CountersPredicted, ReportRefines}
 pub use Rattle.ec_world.specs.SlaveRefines.{IsQuiet, Holds, IsWorking, IsFaulted, IsReset, IsAs, SlaveRefines, HoldsData}

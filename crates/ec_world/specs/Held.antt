@@ -4,6 +4,7 @@ use Rattle.ec_frame.specs.Frame.{Payload, IsFrame}
 use Rattle.ec_link.specs.Plan.{PlanState}
 use Rattle.ec_link.specs.Usable.{IsUsable}
 use Rattle.ec_start.specs.Running.{StartState, IsStartTaken}
+use Rattle.ec_start.specs.Feeding.{feeds_of}
 use Rattle.ec_cycle.specs.Master.{MasterState, OpenCycle, IsTaken}
 use Rattle.ec_world.specs.World.{ByStart, awaits, ready_with}
 
@@ -11,6 +12,7 @@ use Rattle.ec_world.specs.World.{ByStart, awaits, ready_with}
 pub record AreOfPlan (plan : PlanState) (s : StartState) (m : MasterState) : Type 0 where
   pub usable : IsUsable plan
   pub start : s.plan ≡ plan.slaves
+  pub feeds : s.feeds ≡ feeds_of plan
   pub master : m.plan ≡ plan
 
 -- the frames of a cycle that is open

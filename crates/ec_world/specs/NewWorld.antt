@@ -7,6 +7,7 @@ use Rattle.ec_start.specs.declared.error.StartError.{StartError}
 use Rattle.ec_start.specs.declared.phase.Phase.TheVariants.{Failed}
 use Rattle.ec_start.specs.Scripts.{script}
 use Rattle.ec_start.specs.Running.{begun, last_number}
+use Rattle.ec_start.specs.Feeding.{feeds_of, frames_of}
 use Rattle.ec_bringup.specs.Undisturbed.{Rising}
 use Rattle.ec_bringup.specs.ComesUp.{IsUpAndWorks}
 pub use Rattle.ec_bringup.specs.Devices.{AreOfTypes}
@@ -37,9 +38,9 @@ abbrev pub AreTurns : (n turns : ℕ) → List Event → Type 0
 AreTurns n zero events = events ≡ []
 AreTurns n (suc turns) events = (turn : List Event) × (rest : List Event) × (events ≡ turn ++ rest) × IsTurn n turn × AreTurns n turns rest
 
--- the turns of a whole start-up: one for each action of its script
+-- the turns of a whole start-up: one for each action of its script, and for each part that is fed
 abbrev pub BringUp : Contents → List Event → Type 0
-BringUp t events = AreTurns (length t.slaves) (length (script (plan_of t).slaves)) events
+BringUp t events = AreTurns (length t.slaves) (frames_of (feeds_of (plan_of t)) (script (plan_of t).slaves)) events
 
 -- slave s and the n - 1 behind it
 abbrev pub servings : ℕ → ℕ → List Event
@@ -67,8 +68,8 @@ pub record IsToStart (t : Contents) (w : WorldState) : Type 0 where
   pub made : ℕ
   pub reached : IsRun first events w made
   pub no_frame : (k : ℕ) → flight_at w k ≡ None
-  pub begins : (w.start ≡ begun (plan_of t).slaves w.start.next) ⊎ ((failure : StartError) × (w.start.phase ≡ Failed failure))
-  pub numbers : w.start.next + length (script (plan_of t).slaves) ≤ last_number
+  pub begins : (w.start ≡ begun (plan_of t).slaves (feeds_of (plan_of t)) w.start.next) ⊎ ((failure : StartError) × (w.start.phase ≡ Failed failure))
+  pub numbers : w.start.next + frames_of (feeds_of (plan_of t)) (script (plan_of t).slaves) ≤ last_number
 
 -- A new world itself is one.
 abbrev pub NewLaw : Type 0
@@ -83,12 +84,12 @@ MachineLaw = (t : Contents) (w : WorldState) → IsOfMachine t w → IsToStart t
 abbrev pub rising_of : WorldState → Rising
 rising_of w = record { start = w.start; slaves = w.slaves }
 
--- All of the events were made. The start-up is Ready after one frame for each action of its script, and every slave is in OP and
--- works as planned; no frame is on its way, no cycle is open, and the master's next number is behind those of the start-up.
+-- All of the events were made. The start-up is Ready after `frames_of` its script, and every slave is in OP and works as
+-- planned; no frame is on its way, no cycle is open, and the master's next number is behind those of the start-up.
 pub record IsBroughtUp (t : Contents) (w : WorldState) (events : List Event) (v : WorldState) (made : ℕ) : Type 0 where
   pub all_made : made ≡ length events
   pub up : is_up v.start ≡ true
-  pub works : IsUpAndWorks (plan_of t).slaves (w.start.next + length (script (plan_of t).slaves)) (rising_of v)
+  pub works : IsUpAndWorks (plan_of t).slaves (w.start.next + frames_of (feeds_of (plan_of t)) (script (plan_of t).slaves)) (rising_of v)
   pub no_frame : (k : ℕ) → flight_at v k ≡ None
   pub no_cycle : v.master.cycle ≡ None
   pub next_number : v.master.next ≡ max w.master.next v.start.next

@@ -39,6 +39,7 @@ pub record IsWorking (i : ℕ) (p : SlavePlan) (s : SlaveState) (q : PlainSlave)
   pub state : s.al.state ≡ Op
   pub no_error : s.al.error ≡ false
   pub out_unlocked : (manager_at s.managers 2).locked ≡ false
+  pub out_free : (manager_at s.managers 2).awaited ≡ false
   pub in_unlocked : (manager_at s.managers 3).locked ≡ false
 
 -- in SAFEOP with an error, its outputs locked

@@ -11,6 +11,7 @@ use Rattle.ec_link.specs.Plan.{PlanState, plan_of}
 use Rattle.ec_link.specs.Meaning.{meaning}
 use Rattle.ec_link.specs.Usable.{IsUsable}
 use Rattle.ec_start.specs.Running.{begun}
+use Rattle.ec_start.specs.Feeding.{feeds_of}
 use Rattle.ec_sync.specs.Buffer.{Buffer, emptied_buffer}
 use Rattle.ec_bringup.specs.SwitchedOn.{AreIdentities, switched_on}
 use Rattle.ec_bringup.specs.Standing.{unviewed}
@@ -86,7 +87,7 @@ slot_count = 64
 abbrev pub new_world : PlanState → List Identity → WorldState
 new_world plan identities = record {
   plan = plan;
-  start = begun plan.slaves 0;
+  start = begun plan.slaves (feeds_of plan) 0;
   master = new_master plan;
   slaves = switched_on plan.slaves identities;
   slots = replicate slot_count None;

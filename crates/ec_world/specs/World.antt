@@ -162,7 +162,7 @@ abbrev pub resumed : StartState → Phase → StartState
 resumed s Idle = s
 resumed s (Sent number) = s
 resumed s Ready = s
-resumed s (Failed failure) = begun s.plan s.next
+resumed s (Failed failure) = begun s.plan s.feeds s.next
 
 -- its next frame, with nothing behind the datagrams, goes into the lowest slot
 pub record Sends (old new : WorldState) : Type 0 where
@@ -191,7 +191,7 @@ GivesUp old new = new ≡ record old { start = given_up old.start }
 
 -- A Ready start-up is given up as one that sent no frame yet. The next one begins behind the numbers of its frames and of the cycles.
 abbrev pub stopped : StartState → MasterState → StartState
-stopped s m = given_up (begun s.plan (max s.next m.next))
+stopped s m = given_up (begun s.plan s.feeds (max s.next m.next))
 
 -- an event goes to the start-up while it awaits a frame, else to the master
 abbrev pub ByStart : Bool → Type 0 → Type 0 → Type 0

@@ -35,10 +35,11 @@ fn resume(start: &mut Startup)
 
 /// Gives a Ready start-up up: it is as one that was given up before its first frame, behind the numbers of its frames and of the
 /// cycles.
-#[tactic(auto, using(crate::proofs::Runs::Unstopped::stopped_plan))]
+#[tactic(auto, using(crate::proofs::Runs::Unstopped::stopped_plan, crate::proofs::Runs::Unstopped::stopped_feeds))]
 fn give_up(start: &mut Startup, master: &Master<'_>)
     ensures value { start.new ≡ stopped start.old master.now }
     ensures plan { start.new.plan ≡ start.old.plan }
+    ensures feeds { start.new.feeds ≡ start.old.feeds }
 {
     let number = start.next_number().max(master.next_number());
     start.begin_again(number);

@@ -7,6 +7,7 @@ ghost use Rattle.ec_link.specs.Faults.{compile_fault};
 ghost use Rattle.ec_link.specs.Plan.{plan_of};
 ghost use Rattle.ec_link.specs.Usable.{IsUsable};
 ghost use Rattle.ec_start.specs.Planned.{HasFewAssigned};
+ghost use Rattle.ec_start.specs.Feeding.{feeds_of};
 ghost use Rattle.ec_start.specs.Running.{begun, outcome_of};
 ghost use Rattle.ec_cycle.specs.Master.{new_master, value_at};
 ghost use Rattle.ec_world.specs.Laws.{IsRun, StepRefines, RunRefines};
@@ -309,7 +310,7 @@ impl<'p> World<'p> {
 fn ends_of<'p>(alloc: Global, plan: &'p Plan) -> Result<(Startup<'p>, Master<'p>), AllocError>
     requires few { All HasFewAssigned plan.now.slaves }
     requires usable { IsUsable plan.now }
-    ensures start { IfOk result (λ ends. ends.0 ≡ begun plan.now.slaves 0) }
+    ensures start { IfOk result (λ ends. ends.0 ≡ begun plan.now.slaves (feeds_of plan.now) 0) }
     ensures master { IfOk result (λ ends. ends.1 ≡ new_master plan.now) }
 {
     let start = Startup::new(plan, 0);

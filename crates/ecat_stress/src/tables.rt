@@ -1,7 +1,8 @@
 //! Tables and scripts from seeds, with what the calls make of them, for a comparison with the program `ecat`.
 //!
-//! For each seed it prints five texts, each behind a line with its name and its length in bytes: the table, the script, the text of
-//! the plan, what the lines of the script print over a world, and what three cycles between sockets must print.
+//! For each seed it prints five texts of a table, and five of a table for hardware, each behind a line with its name and its length
+//! in bytes: the table, the script, the text of the plan, what the lines of the script print over a world, and what three cycles
+//! between sockets must print.
 mod cycles;
 
 use crate::args::number;
@@ -15,7 +16,7 @@ use ec_world::World;
 use std::alloc::{AllocError, Global};
 use std::io;
 use std::io::Write;
-use test_data::{Random, random_script, random_table};
+use test_data::{Random, random_hardware_table, random_script, random_table};
 
 /// The cycles of each table.
 const CYCLES: u64 = 3;
@@ -141,12 +142,27 @@ fn print_texts<W: Write>(
     }
 }
 
-/// Prints the texts of a seed. Returns whether its table and its script could be read.
-fn print_seed<W: Write>(alloc: Global, seed: u64, output: &mut W) -> io::Result<bool> {
+/// Prints the texts of a seed's table, or of its table for hardware. Returns whether the table and its script could be read.
+fn print_table<W: Write>(
+    alloc: Global,
+    seed: u64,
+    is_hardware: bool,
+    output: &mut W,
+) -> io::Result<bool> {
     let mut random = Random::new(seed);
-    let table = random_table(alloc, &mut random)?;
+    let table = if is_hardware {
+        random_hardware_table(alloc, &mut random)?
+    } else {
+        random_table(alloc, &mut random)?
+    };
     let script = random_script(alloc, &mut random, table.as_str())?;
     print_texts(alloc, table.as_str(), script.as_str(), output)
+}
+
+/// Prints the texts of both tables of a seed. Returns whether all could be read.
+fn print_seed<W: Write>(alloc: Global, seed: u64, output: &mut W) -> io::Result<bool> {
+    let is_read = print_table(alloc, seed, false, output)?;
+    Ok(print_table(alloc, seed, true, output)? && is_read)
 }
 
 /// Prints the texts of so many seeds from a first one on, as the arguments ask for. Returns whether all could be read.

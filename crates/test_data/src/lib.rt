@@ -17,4 +17,4 @@ pub use crate::files::{
 pub use crate::random::Random;
 pub use crate::scripts::random_script;
 pub use crate::spellings::{SHORT_THREE_SLAVES, SHORT_TWO_UNITS, SHORT_WITHOUT_LRW};
-pub use crate::tables::random_table;
+pub use crate::tables::{random_hardware_table, random_table};

@@ -1,7 +1,9 @@
 //! Slaves that were just switched on, by the words of a line.
 use crate::compare::{expect, parts};
 use ec_coe::Dictionary;
-use ec_device::{Device, Entry, Face, MAX_NAME, Mailbox, Pdo, SlaveType};
+use ec_device::{
+    Device, Entry, Face, Hardware, MAX_NAME, Mailbox, PINS_INSIDE, Pdo, ProcessManager, SlaveType,
+};
 use ec_listed::Listed;
 use ec_slave::Slave;
 use std::alloc::{AllocError, Global};
@@ -68,6 +70,7 @@ fn objects_of(rt: &impl Abort, word: &str) -> (Pdos<'static>, Pdos<'static>) {
     match word {
         "mixed" => (&[(0x1600, 0x7010, 12, 1)], &[(0x1A00, 0x6010, 16, 1)]),
         "four" => (&[(0x1600, 0x7000, 4, 1)], &[]),
+        "lamps" => (&[(0x1600, 0x7000, 8, 1)], &[(0x1A00, 0x6000, 8, 1)]),
         "two" => (&[(0x1600, 0x7000, 64, 1), (0x1601, 0x7001, 64, 1)], &[]),
         "long32" => (&[(0x1600, 0x7000, 64, 32)], &[]),
         "long33" => (&[(0x1600, 0x7000, 64, 33)], &[]),
@@ -117,4 +120,64 @@ pub(crate) fn dictionary_in(
 /// A slave of that type.
 pub(crate) fn slave_in(rt: &(impl AllocGlobal + Abort), words: &str) -> Result<Slave, AllocError> {
     Slave::new(rt.alloc(), kind_in(rt, words), DEVICE.identity(0))
+}
+
+/// The type of lamps and keys: the outputs begin in the register of the pins, managers 0 and 1 hold the process data, there is
+/// no firmware, and there are two FMMUs.
+fn lamps_kind(rt: &impl Abort, outputs: Listed<Pdo>, inputs: Listed<Pdo>) -> SlaveType {
+    let fits = SlaveType::is_within_limits(None, outputs.as_slice(), inputs.as_slice());
+    expect(rt, fits, "the limits of a type");
+    let mut kind = SlaveType::new(DEVICE, None, PINS_INSIDE, 0x1000, outputs, inputs, true);
+    kind.describe(Hardware {
+        out_manager: ProcessManager {
+            number: 0,
+            control: 0x44,
+        },
+        in_manager: ProcessManager {
+            number: 1,
+            control: 0,
+        },
+        has_pins: true,
+        has_firmware: false,
+        fmmus: 2,
+        any_revision: true,
+    });
+    kind
+}
+
+/// The type of a valve: a type with mailboxes whose firmware awaits outputs, and whose outputs want a watchdog.
+fn valve_kind(rt: &impl Abort, outputs: Listed<Pdo>, inputs: Listed<Pdo>) -> SlaveType {
+    let mut kind = kind_of(rt, Some(mailbox_of(128)), outputs, inputs);
+    kind.describe(Hardware {
+        out_manager: ProcessManager {
+            number: 2,
+            control: 0x64,
+        },
+        in_manager: ProcessManager {
+            number: 3,
+            control: 0x20,
+        },
+        has_pins: false,
+        has_firmware: true,
+        fmmus: 3,
+        any_revision: true,
+    });
+    kind
+}
+
+/// A type of real devices with the PDOs of a word.
+fn real_kind(rt: &(impl AllocGlobal + Abort), word: &str) -> SlaveType {
+    let (outputs, inputs) = objects_of(rt, word);
+    let outputs = pdos_of(rt.alloc(), outputs).expect(rt, "memory");
+    let inputs = pdos_of(rt.alloc(), inputs).expect(rt, "memory");
+    if word == "lamps" {
+        lamps_kind(rt, outputs, inputs)
+    } else {
+        valve_kind(rt, outputs, inputs)
+    }
+}
+
+/// A slave of that type.
+pub(crate) fn real_slave(rt: &(impl AllocGlobal + Abort), word: &str) -> Result<Slave, AllocError> {
+    Slave::new(rt.alloc(), real_kind(rt, word), DEVICE.identity(0))
 }

@@ -2,13 +2,14 @@
 //! file, so it stays in INIT; `firmware` does.
 mod borders;
 mod firmware;
+mod hardware;
 mod long;
 mod overlaps;
 mod runs;
 mod steps;
 
 use self::steps::expect_case;
-use crate::kinds::slave_in;
+use crate::kinds::{real_slave, slave_in};
 use ec_device::{Identity, SlaveType};
 use ec_listed::Listed;
 use ec_slave::Slave;
@@ -35,6 +36,10 @@ enum Kind {
     Plain,
     /// One with mailboxes, 12 bits of outputs and 16 bits of inputs.
     Mixed,
+    /// The same of a type of real devices.
+    Valve,
+    /// One of a type of real devices that has no firmware, 8 bits of outputs and 8 bits of inputs.
+    Lamps,
 }
 
 /// A slave that was just switched on.
@@ -42,6 +47,8 @@ fn slave_of(rt: &(impl AllocGlobal + Abort), kind: Kind) -> Result<Slave, AllocE
     match kind {
         Kind::Plain => plain_slave(rt.alloc()),
         Kind::Mixed => slave_in(rt, "mixed - 128"),
+        Kind::Valve => real_slave(rt, "mixed"),
+        Kind::Lamps => real_slave(rt, "lamps"),
     }
 }
 

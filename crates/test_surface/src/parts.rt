@@ -12,8 +12,8 @@ use ec_fmmu::{
 use ec_frame::{Builder, Command, Datagram, Datagrams, Frame, FrameError, Full, Header, check};
 use ec_regs::registers::{AL_CONTROL, AL_STATUS};
 use ec_regs::{
-    AlWord, FmmuSettings, SiiControl, decode_fmmu, decode_manager, encode_fmmu, encode_manager,
-    takes_writes,
+    AlWord, FmmuSettings, SiiControl, SlaveType, decode_fmmu, decode_manager, encode_fmmu,
+    encode_manager, shown_fmmu, shown_manager, takes_writes,
 };
 use ec_sync::{Manager, Reach, Touching, Writing};
 use std::alloc::AllocError;
@@ -141,8 +141,22 @@ const MANAGER: [u8; 8] = [0x00, 0x11, 0x02, 0x00, 0x24, 0x00, 0x01, 0x00];
 /// The output FMMU of the same slave.
 const FMMU: [u8; 16] = [0, 0, 1, 0, 2, 0, 4, 7, 0, 0x11, 0, 2, 1, 0, 0, 0];
 
+/// The registers of a type that says nothing of real devices have the addresses inside its slaves.
+fn expect_shown(rt: &(impl AllocGlobal + Abort)) {
+    let kind = SlaveType::without_pdos(rt.alloc());
+    let manager = shown_manager(&kind, decode_manager(&MANAGER));
+    let fmmu = shown_fmmu(&kind, decode_fmmu(&FMMU));
+    expect_same(
+        rt,
+        &(encode_manager(&manager), encode_fmmu(&fmmu)),
+        &(MANAGER, FMMU),
+        "registers",
+    );
+}
+
 #[test]
 fn registers(rt: HostRuntime) {
+    expect_shown(&rt);
     let (manager, fmmu) = (decode_manager(&MANAGER), decode_fmmu(&FMMU));
     expect_same(
         &rt,
@@ -238,9 +252,17 @@ fn expect_inputs(rt: &impl Abort, manager: &mut Manager) {
 /// A byte of outputs there, which the ring writes and the application reads.
 fn expect_outputs(rt: &impl Abort, manager: &mut Manager) {
     manager.configure(decode_manager(&[0, 0x11, 1, 0, 0x24, 0, 1, 0]));
+    manager.await_value(true);
+    let is_awaited = manager.is_awaited();
     let is_written = manager.ring_write(&Zero { address: 0x1100 });
     let met = (is_written, manager.app_get(0), manager.app_get(1));
     expect_same(rt, &met, &(true, Some(0), None), "outputs");
+    expect_same(
+        rt,
+        &(is_awaited, manager.is_awaited()),
+        &(true, false),
+        "outputs",
+    );
 }
 
 /// A mailbox there into which the firmware puts a message, and one from which it takes one.

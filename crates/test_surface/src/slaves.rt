@@ -47,6 +47,8 @@ fn states(rt: HostRuntime) {
         &([2, 4, 8], true, (0x0014, 0x0001), 1),
         "states",
     );
+    al.copy(0x0011);
+    expect_same(&rt, &(al.status_word(), al.code()), &(0x0011, 0), "states");
 }
 
 // ---- ec_sii

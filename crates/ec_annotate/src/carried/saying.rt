@@ -110,8 +110,14 @@ fn write_carried(
     write!(text, "{way} {}", row.name.as_str())?;
     let first = link.image.saturating_sub(variable.from);
     write_bits(text, first, link.count, variable.bits)?;
+    let is_whole = link.count == usize::from(variable.bits);
+    let shown = if is_whole {
+        table.number(place, number)
+    } else {
+        i128::from(number)
+    };
     let slave = link.slave;
-    writeln!(text, " = {number} ({number:#x}), slave {slave}")
+    writeln!(text, " = {shown} ({number:#x}), slave {slave}")
 }
 
 /// Adds which bits of a variable they are, if a link doesn't join all of them.

@@ -1,6 +1,7 @@
 -- Applications that step between the frames of a start-up change nothing of what its next frame relies on.
-use Rattle.ec_bringup.proofs.Words.{ℕ, zero, suc, ◌+◌, ◌<◌, ◌≡◌, ◌≢◌, true, false, refl, sym, ◌∙◌, ap, arith, List, [], ◌∷◌, length, get_or-set_other, SlaveKind, Buffer, SyncManager, no_manager, SlaveState, manager_at, is_running, with_manager, Action, AwaitInit, AskWord, AwaitWord, AwaitState, AwaitReply, Stage, unviewed, Stands, IsSpelled, Rising, turned, turns, rising, Applied, Rests, Reads, Writes, AreApplied, TurnsTo, AppliedStays as Stays, Turns}
+use Rattle.ec_bringup.proofs.Words.{ℕ, zero, suc, ◌+◌, ◌<◌, ◌≡◌, ◌≢◌, true, false, refl, sym, ◌∙◌, ap, arith, List, [], ◌∷◌, length, get_or-set_other, SlaveKind, Buffer, SyncManager, no_manager, SlaveState, manager_at, is_running, with_manager, Action, AwaitInit, AwaitInitState, AwaitCleanInit, AskState, AskWord, AwaitWord, AwaitState, AwaitReply, Stage, Before, Called, Down, Lowered, Up, unviewed, set, Stands, IsSpelled, Rising, turned, turns, rising, Applied, Rests, Reads, Writes, AreApplied, TurnsTo, AppliedStays as Stays, Turns}
 use Rattle.ec_bringup.proofs.OneSlave.Fault.{Changed, buffered-stands}
+use Rattle.ec_bringup.proofs.OneSlave.Dry.{Dry, DryAt}
 use Rattle.ec_bringup.proofs.AllSlaves.NextAction.{Sure}
 use Rattle.ec_bringup.proofs.AllSlaves.FramePasses.{Each}
 
@@ -9,16 +10,20 @@ pub record Stood (kind : SlaveKind) (i : ℕ) (st : Stage) (a : Action) (s : Sla
   pub stands : Stands kind i st false s
   pub spelled : IsSpelled kind.device s
   pub sure : Sure kind i a s
+  pub dry : DryAt st s
 
 -- another buffer of a manager of process data
-abbrev with_buffer : SlaveState → ℕ → Buffer → SlaveState
+abbrev pub with_buffer : SlaveState → ℕ → Buffer → SlaveState
 with_buffer s n b = with_manager s n (record (manager_at s.managers n) { buffer = b })
 
 sure-buffered : (kind : SlaveKind) (i : ℕ) (a : Action) (s : SlaveState) (n : ℕ) (b : Buffer) → n ≢ 1 → Sure kind i a s → Sure kind i a (with_buffer s n b)
-sure-buffered kind i AwaitInit s n b ne h = record { state_is = h.state_is; no_error = h.no_error }
+sure-buffered kind i AwaitInit s n b ne h = record { state_is = h.state_is; no_error = h.no_error; no_request = h.no_request }
+sure-buffered kind i AwaitInitState s n b ne h = h
+sure-buffered kind i (AwaitCleanInit t) s n b ne h = h
+sure-buffered kind i (AskState t to) s n b ne h = h
 sure-buffered kind i (AskWord t which) s n b ne h = h
 sure-buffered kind i (AwaitWord t which) s n b ne h = h
-sure-buffered kind i (AwaitState t to) s n b ne h = λ q. let g = h q in record { state_is = g.state_is; no_error = g.no_error }
+sure-buffered kind i (AwaitState t to) s n b ne h = λ q. let g = h q in record { state_is = g.state_is; no_error = g.no_error; no_request = g.no_request }
 sure-buffered kind i (AwaitReply t x r) s n b ne h = λ q.
     let g = h q in
     record {
@@ -29,12 +34,30 @@ sure-buffered kind i (AwaitReply t x r) s n b ne h = λ q.
     }
 sure-buffered kind i _ s n b ne h = tt
 
+awaited-buffered : (ms : List SyncManager) (k j : ℕ) (x : Buffer) → (manager_at (set ms k (record (manager_at ms k) { buffer = x })) j).awaited ≡ (manager_at ms j).awaited
+awaited-buffered [] k j x = refl
+awaited-buffered (m ∷ ms) zero zero x = refl
+awaited-buffered (m ∷ ms) zero (suc j) x = refl
+awaited-buffered (m ∷ ms) (suc k) zero x = refl
+awaited-buffered (m ∷ ms) (suc k) (suc j) x = awaited-buffered ms k j x
+
+dry-one : (s : SlaveState) (n : ℕ) (b : Buffer) → Dry s → Dry (with_buffer s n b)
+dry-one s n b h = record { off = λ w e safe none. awaited-buffered s.managers n 2 b ∙ h.off w e safe none }
+
+dry-buffered : (st : Stage) (s : SlaveState) (n : ℕ) (b : Buffer) → DryAt st s → DryAt st (with_buffer s n b)
+dry-buffered Before s n b h = tt
+dry-buffered Called s n b h = tt
+dry-buffered (Down f m) s n b h = dry-one s n b h
+dry-buffered (Lowered f m) s n b h = dry-one s n b h
+dry-buffered (Up c) s n b h = dry-one s n b h
+
 stood-buffered : (kind : SlaveKind) (i : ℕ) (st : Stage) (a : Action) (s : SlaveState) (n : ℕ) (b : Buffer) → n < 4 → n ≢ 1 → is_running s.al.state ≡ true → (n ≡ 2 → unviewed b ≡ unviewed (manager_at s.managers n).buffer)
     → Stood kind i st a s → Stood kind i st a (with_buffer s n b)
 stood-buffered kind i st a s n b l ne run same h = record {
   stands = buffered-stands kind i st false s (with_buffer s n b) n l (Changed b run same refl) h.stands;
   spelled = record { vendor = h.spelled.vendor; product = h.spelled.product; revision = h.spelled.revision };
   sure = sure-buffered kind i a s n b ne h.sure;
+  dry = dry-buffered st s n b h.dry;
 }
 
 pub stood-applied : (kind : SlaveKind) (i : ℕ) (st : Stage) (a : Action) (s t : SlaveState) → Applied s t → Stood kind i st a s → Stood kind i st a t

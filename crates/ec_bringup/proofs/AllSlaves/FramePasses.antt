@@ -1,15 +1,18 @@
 -- A frame of a start-up past all slaves: where each stands, and what comes back.
-use Rattle.ec_bringup.proofs.Words.{ℕ, suc, ◌+◌, ◌-◌, ◌*◌, ◌/◌, ◌%◌, ◌<◌, ◌≤◌, ◌≡◌, ◌≢◌, Bool, true, false, refl, ◌∙◌, ap, subst, inl, inr, arith, List, [], ◌∷◌, length, slice_index, ◌^◌, ◌==◌, Option, sym, if◌then◌else◌, bit_or, from_bool, cases_eq, or_left, eq-eqb, zeros, Device, SlaveKind, ram_start, is_stored, Apwr, Bwr, Datagram, IsDatagram, adp_of, State, Init, state_number, SiiImage, SlaveState, Meeting, Window, byte_at, window_of, meets, slave_met, datagram_met, meets-keeps, other_position_passes, Action, CountSlaves, AskInit, AwaitInit, ClearFmmus, ClearManagers, ClearStations, NameSlave, AskWord, AwaitWord, SetManager, SetFmmu, AskState, AwaitState, SendRequest, AwaitReply, station, datagram_of, Stage, after, Up, Config, Talk, Stands, IsUpAt, Talks, Arrives, Met, IsBroadcast, IsWriting, IsSpelled, all_passed, all_met, served, inside_kept, shows_itself, if_true, Verdict, Next, Word, verdict, CanAct, sent, word_at}
-use Rattle.ec_bringup.proofs.OneFrame.OtherSlaves.{IsOne, one-passes, ForAskState, ForAskWord, ForAwaitReply, ForAwaitState, ForAwaitWord, ForSend, ForSetFmmu, ForSetManager, IsFor, as_one}
+use Rattle.ec_bringup.proofs.Words.{ℕ, suc, ◌+◌, ◌-◌, ◌*◌, ◌/◌, ◌%◌, ◌<◌, ◌≤◌, ◌≡◌, ◌≢◌, Bool, true, false, refl, ◌∙◌, ap, subst, inl, inr, arith, List, [], ◌∷◌, length, slice_index, ◌^◌, ◌==◌, Option, sym, if◌then◌else◌, bit_or, from_bool, cases_eq, or_left, eq-eqb, zeros, Device, SlaveKind, ram_start, is_stored, Apwr, Bwr, Datagram, IsDatagram, adp_of, State, Init, state_number, SiiImage, SlaveState, Meeting, Window, byte_at, window_of, meets, slave_met, datagram_met, meets-keeps, other_position_passes, Action, CountSlaves, AskInit, AwaitInit, ClearFmmus, ClearManagers, ClearStations, NameSlave, AskWord, AwaitWord, SetManager, SetFmmu, AskState, AwaitState, SendRequest, AwaitReply, station, datagram_of, Stage, after, Up, Config, Talk, Stands, IsUpAt, Talks, Arrives, Met, IsBroadcast, IsWriting, IsSpelled, all_passed, all_met, served, inside_kept, shows_itself, if_true, Verdict, Next, Word, verdict, CanAct, sent, word_at, WantedDevice, AwaitInitState, ClearAllFmmus, ClearAllManagers, AssignSii, ClearSiiError, AwaitCleanInit, FeedPart, PreOp, SafeOp, Op, Rise, Falls, Stays, Climbs, Rises, has_firmware, or_mod, Hardware, None, is_missing, fmmu_count}
+use Rattle.ec_bringup.specs.Stages.{IsAtInit}
+use Rattle.ec_bringup.proofs.OneSlave.Lacking.{has-above, has-below}
+use Rattle.ec_bringup.proofs.OneFrame.OtherSlaves.{IsOne, one-passes, ForAskState, ForAskWord, ForAwaitReply, ForAwaitState, ForAwaitCleanInit, ForAwaitWord, ForSend, ForSetFmmu, ForSetManager, IsFor, as_one}
 use Rattle.ec_bringup.proofs.OneFrame.FrameLaw.{pass-law, later-law, look, look-byte}
 use Rattle.ec_bringup.proofs.OneFrame.RegisterPolls.{write-counts, register-writes}
 use Rattle.ec_bringup.proofs.OneFrame.BroadcastWrites.{window-is, broadcast-writes}
 use Rattle.ec_bringup.proofs.OneFrame.NameSlave.{naming, position-writes}
 use Rattle.ec_bringup.proofs.OneFrame.RegisterWrites.{window-sent}
 use Rattle.ec_bringup.proofs.OneFrame.Commands.{IsThere, word_of, HasFound, ask-state-goes, ask-word-goes, set-fmmu-goes, set-manager-goes}
-use Rattle.ec_bringup.proofs.AllSlaves.NextAction.{Prior, Prompted, Sure, next-sure, up-of}
+use Rattle.ec_bringup.proofs.OneSlave.Dry.{DryAt, dry-after, dry-at-met}
+use Rattle.ec_bringup.proofs.AllSlaves.NextAction.{Prior, Prompted, Suits, Sure, next-sure, up-of}
 use Rattle.ec_bringup.proofs.Mailbox.AwaitReply.{boxes-of}
-use Rattle.ec_bringup.proofs.OneFrame.Awaits.{Tells, await-state-ends, await-word-ends, await-reply-ends}
+use Rattle.ec_bringup.proofs.OneFrame.Awaits.{Tells, await-clean-ends, await-state-ends, await-word-ends, await-reply-ends}
 use Rattle.ec_bringup.proofs.OneSlave.MailboxServed.{request-goes}
 
 -- a property of each slave by its place
@@ -33,6 +36,7 @@ pub record After (kind : SlaveKind) (i : ℕ) (st : Stage) (a b : Action) (end :
   pub met : Met kind i st false a end t
   pub spelled : IsSpelled kind.device t
   pub sure : Stands kind i (after i st a) false t → Sure kind i b (served t)
+  pub dry : Stands kind i (after i st a) false t → DryAt (after i st a) (served t)
 
 -- a datagram of an action as it comes to slave j, and the slaves from there on
 pub record Ahead (kinds : ℕ → SlaveKind) (stages : ℕ → Stage) (number : ℕ) (a : Action) (j : ℕ) (ss : List SlaveState) (d : Datagram) : Type 0 where
@@ -59,6 +63,22 @@ init-data s d number h there low high = (
   look-byte s d number 1 h (omega arith) ∙ (ap (λ (x : ℕ). bit_or x (byte_at s 0x0131)) high ∙ ap (bit_or 0) (shows_itself s).status_high),
 )
 
+-- and after one whose state is INIT, with an error or without
+status-low : (s : SlaveState) → s.al.state ≡ Init → byte_at s 0x0130 % 16 ≡ 1
+status-low s e = ap (λ (x : ℕ). x % 16) ((shows_itself s).status ∙ ap (λ (x : State). state_number x + 16 * from_bool s.al.error) e) ∙ by s.al.error
+  where
+    by : (b : Bool) → (1 + 16 * from_bool b) % 16 ≡ 1
+    by true = refl
+    by false = refl
+
+or-low-one : (x y : ℕ) → x % 16 ≤ 1 → y % 16 ≡ 1 → bit_or x y % 16 ≡ 1
+or-low-one x y l e = or_mod x y 4 ∙ (ap (bit_or (x % 16)) e ∙ or-one (x % 16) l)
+
+low-data : (s : SlaveState) (d : Datagram) (number : ℕ) → IsBroadcast (datagram_of AwaitInit number) d → s.al.state ≡ Init → slice_index d.data_bytes 0 % 16 ≤ 1
+    → slice_index (datagram_met s d).data_bytes 0 % 16 ≡ 1
+low-data s d number h there low =
+    ap (λ (x : ℕ). x % 16) (look-byte s d number 0 h (omega arith)) ∙ or-low-one (slice_index d.data_bytes 0) (byte_at s 0x0130) low (status-low s there)
+
 -- the slave that an action is for has its station address, and can be set
 own-prior : (kind : SlaveKind) (t number : ℕ) (a : Action) (st : Stage) (s : SlaveState) (P : Type 0) → IsOne a t number
     → ((c : Config) → t < 64 → Prior kind t (Up c) a s → IsUpAt t c s → CanAct c a → P) → Prior kind t st a s → P
@@ -70,7 +90,7 @@ module _ (kinds : ℕ → SlaveKind) (stages : ℕ → Stage) (number : ℕ) whe
       → Met (kinds j) j (stages j) false a (datagram_met s d) (slave_met s d) × Ahead kinds stages number a (j + 1) ss (datagram_met s d)
   onward a j s ss d h =
       let p = h.priors.0 in
-      let m = pass-law (kinds j) j (stages j) false a number d s (omega (arith, h.few)) h.good p.fits h.arrives p.stands in
+      let m = pass-law (kinds j) j (stages j) false a number d s (omega (arith, h.few)) h.good p.fits p.named h.arrives p.stands in
       (m.0, record { few = omega (arith, h.few); good = (meets-keeps s d h.good).0; arrives = m.1; priors = h.priors.1 })
 
   later-all : (a : Action) (i k : ℕ) (ss : List SlaveState) (d : Datagram) (t : SlaveState) → i < k → Ahead kinds stages number a k ss d
@@ -80,41 +100,45 @@ module _ (kinds : ℕ → SlaveKind) (stages : ℕ → Stage) (number : ℕ) whe
       later-all a i (k + 1) ss (datagram_met s d) t (omega (arith, l)) (onward a k s ss d h).1
       (later-law (kinds i) i (stages i) false (kinds k) k (stages k) false a number d t s l (omega (arith, h.few)) h.priors.0.fits h.good h.arrives h.priors.0.stands m)
 
-  pub pass-all : (a b : Action) (j : ℕ) (ss : List SlaveState) (d : Datagram) → Prompted a b → Ahead kinds stages number a j ss d
+  pub pass-all : (a b : Action) (j : ℕ) (ss : List SlaveState) (d : Datagram) → ((i : ℕ) → i < j + length ss → Suits (kinds i) b) → Prompted a b → Ahead kinds stages number a j ss d
       → Each (λ i t. After (kinds i) i (stages i) a b (all_passed ss d) t) j (all_met ss d)
-  pass-all a b j [] d p h = tt
-  pass-all a b j (s ∷ ss) d p h =
+  pass-all a b j [] d suits p h = tt
+  pass-all a b j (s ∷ ss) d suits p h =
       let here = onward a j s ss d h in (
         record {
           met = later-all a j (j + 1) ss (datagram_met s d) (slave_met s d) (omega arith) here.1 here.0;
           spelled = spelled-on (kinds j).device s (slave_met s d) (inside_kept s d).image h.priors.0.spelled;
-          sure = next-sure (kinds j) j (stages j) number d s (slave_met s d) a b (omega (arith, h.few)) refl p h.priors.0 h.arrives;
+          sure = next-sure (kinds j) j (stages j) number d s (slave_met s d) a b (omega (arith, h.few)) refl (suits j (omega arith)) p h.priors.0 h.arrives;
+          dry = λ k. dry-after (kinds j) j (stages j) a (slave_met s d) h.priors.0.fits (dry-at-met (stages j) s d h.priors.0.dry) k;
         },
-        pass-all a b (j + 1) ss (datagram_met s d) p here.1,
+        pass-all a b (j + 1) ss (datagram_met s d) (λ i l. suits i (omega (arith, l))) p here.1,
       )
 
   -- ---- a broadcast counts each slave
 
-  counter-all : (a : Action) (j : ℕ) (ss : List SlaveState) (d : Datagram) → ((i : ℕ) (s : SlaveState) (x : Datagram) → Arrives a number i x → (datagram_met s x).counter ≡ (x.counter + 1) % 65536)
+  counter-all : (a : Action) (j n : ℕ) (ss : List SlaveState) (d : Datagram) → j + length ss ≤ n
+      → ((i : ℕ) (s : SlaveState) (x : Datagram) → i < n → Prior (kinds i) i (stages i) a s → Arrives a number i x → (datagram_met s x).counter ≡ (x.counter + 1) % 65536)
       → d.counter + length ss < 65536 → Ahead kinds stages number a j ss d → (all_passed ss d).counter ≡ d.counter + length ss
-  counter-all a j [] d each few h = let e : d.counter ≡ d.counter + 0 = omega arith in e
-  counter-all a j (s ∷ ss) d each few h =
-      let c : (datagram_met s d).counter ≡ d.counter + 1 = let x = each j s d h.arrives in omega (arith, x, few) in
-      let k = counter-all a (j + 1) ss (datagram_met s d) each (omega (arith, c, few)) (onward a j s ss d h).1 in
+  counter-all a j n [] d in_all each few h = let e : d.counter ≡ d.counter + 0 = omega arith in e
+  counter-all a j n (s ∷ ss) d in_all each few h =
+      let c : (datagram_met s d).counter ≡ d.counter + 1 = let x = each j s d (omega (arith, in_all)) h.priors.0 h.arrives in omega (arith, x, few) in
+      let k = counter-all a (j + 1) n ss (datagram_met s d) (omega (arith, in_all)) each (omega (arith, c, few)) (onward a j s ss d h).1 in
       omega (arith, c, k)
 
-  all-count : (a : Action) (ss : List SlaveState) → (datagram_of a number).counter ≡ 0 → ((i : ℕ) (s : SlaveState) (x : Datagram) → Arrives a number i x → (datagram_met s x).counter ≡ (x.counter + 1) % 65536)
+  all-count : (a : Action) (ss : List SlaveState) → (datagram_of a number).counter ≡ 0
+      → ((i : ℕ) (s : SlaveState) (x : Datagram) → i < length ss → Prior (kinds i) i (stages i) a s → Arrives a number i x → (datagram_met s x).counter ≡ (x.counter + 1) % 65536)
       → Ahead kinds stages number a 0 ss (datagram_of a number) → (all_passed ss (datagram_of a number)).counter ≡ length ss
-  all-count a ss z each h = let k = counter-all a 0 ss (datagram_of a number) each (omega (arith, h.few, z)) h in omega (arith, k, z)
+  all-count a ss z each h = let k = counter-all a 0 (length ss) ss (datagram_of a number) (omega arith) each (omega (arith, h.few, z)) h in omega (arith, k, z)
 
   -- a write of registers that are stored
   write-count : (a : Action) (ado : ℕ) (bytes : List ℕ) (ss : List SlaveState) → datagram_of a number ≡ sent Bwr 0 ado bytes number → ((i : ℕ) (x : Datagram) → Arrives a number i x → IsWriting (datagram_of a number) x (i % 65536))
-      → 0 < length bytes → ado + 0 < ram_start → is_stored (ado + 0) ≡ true → Ahead kinds stages number a 0 ss (datagram_of a number) → (all_passed ss (datagram_of a number)).counter ≡ length ss
-  write-count a ado bytes ss e is some low stored h =
+      → 0 < length bytes → ado + 0 < ram_start → is_stored (ado + 0) ≡ true
+      → ((i : ℕ) (s : SlaveState) → i < length ss → Prior (kinds i) i (stages i) a s → is_missing s.kind.hardware (ado + 0) ≡ false) → Ahead kinds stages number a 0 ss (datagram_of a number) → (all_passed ss (datagram_of a number)).counter ≡ length ss
+  write-count a ado bytes ss e is some low stored there h =
       let w : Window = record { from = ado; bytes = bytes } in
       all-count a ss (ap (λ (x : Datagram). x.counter) e)
-      (λ i s x q. write-counts s x w 0 (broadcast-writes s x ((is i x q).command ∙ ap (λ (y : Datagram). y.command) e))
-      (window-is (datagram_of a number) x (i % 65536) w (is i x q) (ap window_of e ∙ window-sent Bwr 0 ado bytes number)) some (register-writes s w 0 low (or_left _ _ stored))) h
+      (λ i s x b p q. write-counts s x w 0 (broadcast-writes s x ((is i x q).command ∙ ap (λ (y : Datagram). y.command) e))
+      (window-is (datagram_of a number) x (i % 65536) w (is i x q) (ap window_of e ∙ window-sent Bwr 0 ado bytes number)) some (there i s b p) (register-writes s w 0 low (or_left _ _ stored))) h
 
   -- all show INIT, where one slave at least does
   init-all : (j : ℕ) (s : SlaveState) (ss : List SlaveState) (d : Datagram) → slice_index d.data_bytes 0 ≤ 1 → slice_index d.data_bytes 1 ≡ 0 → Ahead kinds stages number AwaitInit j (s ∷ ss) d
@@ -123,6 +147,14 @@ module _ (kinds : ℕ → SlaveKind) (stages : ℕ → Stage) (number : ℕ) whe
   init-all j s (t ∷ ss) d low high h =
       let x = init-data s d number h.arrives h.priors.0.sure low high in
       init-all (j + 1) t ss (datagram_met s d) (omega (arith, x.0)) x.1 (onward AwaitInit j s (t ∷ ss) d h).1
+
+  -- all show INIT, with an error or without
+  low-all : (j : ℕ) (s : SlaveState) (ss : List SlaveState) (d : Datagram) → slice_index d.data_bytes 0 % 16 ≤ 1 → Ahead kinds stages number AwaitInitState j (s ∷ ss) d
+      → slice_index (all_passed (s ∷ ss) d).data_bytes 0 % 16 ≡ 1
+  low-all j s [] d low h = low-data s d number h.arrives h.priors.0.sure low
+  low-all j s (t ∷ ss) d low h =
+      let x = low-data s d number h.arrives h.priors.0.sure low in
+      low-all (j + 1) t ss (datagram_met s d) (omega (arith, x)) (onward AwaitInitState j s (t ∷ ss) d h).1
 
   -- ---- an action for one slave: what that one makes of the datagram
 
@@ -160,7 +192,7 @@ module _ (kinds : ℕ → SlaveKind) (stages : ℕ → Stage) (number : ℕ) whe
     | inl e ↦
         let adp : adp_of d ≡ 0 = omega (arith, h.arrives.adp_is, e, h.few) in
         let win = window-is (datagram_of (NameSlave t) number) d _ (naming t) h.arrives (window-sent Apwr (65536 - t) 0x0010 (station t % 256 ∷ station t / 256 ∷ []) number) in
-        let c = write-counts s d (naming t) 0 (position-writes s d h.arrives.command adp) win (omega arith) (register-writes s (naming t) 0 (omega arith) refl) in
+        let c = write-counts s d (naming t) 0 (position-writes s d h.arrives.command adp) win (omega arith) (has-below s.kind.hardware 0x0010 (omega arith)) (register-writes s (naming t) 0 (omega arith) refl) in
         let k = name-beyond t (j + 1) ss (datagram_met s d) lt (omega (arith, e)) (onward (NameSlave t) j s ss d h).1 in
         omega (arith, c, k, z)
     | inr ne ↦
@@ -171,27 +203,31 @@ module _ (kinds : ℕ → SlaveKind) (stages : ℕ → Stage) (number : ℕ) whe
 -- ---- the verdict on a frame that passed all slaves undisturbed: the action is done, at the first frame
 
 -- what comes back where nothing disturbs
-abbrev pub wanted : (ℕ → Device) → Action → Verdict
-wanted types (AwaitWord t which) = Word (word_of (types t) which)
+abbrev pub wanted : (ℕ → WantedDevice) → Action → Verdict
+wanted types (AwaitWord t which) = Word (word_of (types t).device which)
 wanted types _ = Next
 
--- the slave that it is for is there
-abbrev pub IsInside : ℕ → Action → Type 0
-IsInside n (NameSlave t) = t < n
-IsInside n (AskWord t which) = (t < n) × (which < 3)
-IsInside n (AwaitWord t which) = (t < n) × (which < 3)
-IsInside n (SetManager t k m) = t < n
-IsInside n (SetFmmu t k f) = t < n
-IsInside n (AskState t to) = t < n
-IsInside n (AwaitState t to) = t < n
-IsInside n (SendRequest t counter b r) = t < n
-IsInside n (AwaitReply t b r) = t < n
-IsInside n _ = Unit {0}
+-- the slave that it is for is there, and it is of a table with `hardware` or without
+abbrev pub IsInside : Bool → ℕ → Action → Type 0
+IsInside hw n AwaitInit = hw ≡ false
+IsInside hw n ClearFmmus = hw ≡ false
+IsInside hw n (AwaitCleanInit t) = t < n
+IsInside hw n (FeedPart f) = ⊥
+IsInside hw n (NameSlave t) = t < n
+IsInside hw n (AskWord t which) = (t < n) × (which < 3)
+IsInside hw n (AwaitWord t which) = (t < n) × (which < 3)
+IsInside hw n (SetManager t k m r) = (t < n) × (r.number < 4)
+IsInside hw n (SetFmmu t k f start) = t < n
+IsInside hw n (AskState t to) = t < n
+IsInside hw n (AwaitState t to) = t < n
+IsInside hw n (SendRequest t counter b r) = t < n
+IsInside hw n (AwaitReply t b r) = t < n
+IsInside hw n _ = Unit {0}
 
 -- the words that were shown before are the type's
-abbrev pub Told : (ℕ → Device) → Device → Action → Type 0
-Told types seen (AskWord t which) = Tells (types t) seen which
-Told types seen (AwaitWord t which) = Tells (types t) seen which
+abbrev pub Told : (ℕ → WantedDevice) → Device → Action → Type 0
+Told types seen (AskWord t which) = Tells (types t).device seen which
+Told types seen (AwaitWord t which) = Tells (types t).device seen which
 Told types seen _ = Unit {0}
 
 -- the frame as it is sent comes to the first slave
@@ -202,6 +238,12 @@ sets-out AskInit number = record { command = refl; ado = refl; adp_is = refl; by
 sets-out ClearFmmus number = record { command = refl; ado = refl; adp_is = refl; bytes = refl }
 sets-out ClearManagers number = record { command = refl; ado = refl; adp_is = refl; bytes = refl }
 sets-out ClearStations number = record { command = refl; ado = refl; adp_is = refl; bytes = refl }
+sets-out AwaitInitState number = record { command = refl; ado = refl; data_length = refl }
+sets-out ClearAllFmmus number = record { command = refl; ado = refl; adp_is = refl; bytes = refl }
+sets-out ClearAllManagers number = record { command = refl; ado = refl; adp_is = refl; bytes = refl }
+sets-out (AssignSii access) number = record { command = refl; ado = refl; adp_is = refl; bytes = refl }
+sets-out ClearSiiError number = record { command = refl; ado = refl; adp_is = refl; bytes = refl }
+sets-out (FeedPart f) number = tt
 sets-out (NameSlave t) number = record {
   command = refl;
   ado = refl;
@@ -210,11 +252,30 @@ sets-out (NameSlave t) number = record {
 }
 sets-out a number = record { to_come = λ l. refl; gone_by = record { command = refl; address = refl } }
 
+-- a slave with firmware that is awaited without an error has none: its request was decided
+clean-there : (kind : SlaveKind) (t : ℕ) (c : Config) (x : SlaveState) → t < 64 → Prior kind t (Up c) (AwaitCleanInit t) x → IsUpAt t c x → CanAct c (AwaitCleanInit t) → IsThere Init x
+clean-there kind t c x l k u can = by c.rise can.0 u.rises
+  where
+    firm : has_firmware x.kind.hardware ≡ true
+    firm = ap (λ (y : SlaveKind). has_firmware y.hardware) k.stands.slave.kind_is ∙ k.bless (ForAwaitCleanInit t)
+
+    by : (r : Rise) → IsAtInit r → Rises r x → IsThere Init x
+    by Falls at h = record { state_is = h.state; no_error = h.no_error firm (k.sure h.state); no_request = k.sure h.state }
+    by (Stays Init) at h = record { state_is = h.state; no_error = h.no_error firm; no_request = k.sure h.state }
+    by (Stays PreOp) at h = absurd at
+    by (Stays SafeOp) at h = absurd at
+    by (Stays Op) at h = absurd at
+    by (Climbs from to) at h = absurd at
+
+-- of a type that says nothing of real devices a slave lacks no FMMU
+none-missing : (o : Option Hardware) (a : ℕ) → o ≡ None → is_missing o a ≡ false
+none-missing o a e = ap (λ (x : Option Hardware). is_missing x a) e
+
 -- a counter that is right
 right : (seen n : ℕ) (v w : Verdict) → seen ≡ n → (if seen == n then v else w) ≡ v
 right seen n v w e = if_true _ _ _ (eq-eqb seen n e)
 
-module _ (kinds : ℕ → SlaveKind) (stages : ℕ → Stage) (number step : ℕ) (seen : Device) (types : ℕ → Device) (s : SlaveState) (ss : List SlaveState) where
+module _ (kinds : ℕ → SlaveKind) (stages : ℕ → Stage) (number step : ℕ) (seen : Device) (types : ℕ → WantedDevice) (hw : Bool) (s : SlaveState) (ss : List SlaveState) where
   -- as the slave that it is for made it
   one-ends : (a : Action) (t : ℕ) (is : IsFor t a) → t < length (s ∷ ss) → Ahead kinds stages number a 0 (s ∷ ss) (datagram_of a number)
       → ((c : Config) (x : SlaveState) → t < 64 → Prior (kinds t) t (Up c) a x → IsUpAt t c x → CanAct c a → verdict (length (s ∷ ss)) step seen types a (datagram_met x (as_one number is).e) ≡ wanted types a)
@@ -223,41 +284,54 @@ module _ (kinds : ℕ → SlaveKind) (stages : ℕ → Stage) (number step : ℕ
       one-reach kinds stages number a t 0 (s ∷ ss) (datagram_of a number) (λ d. verdict (length (s ∷ ss)) step seen types a d ≡ wanted types a) (as_one number is)
       (λ x k. own-prior (kinds t) t number a (stages t) x _ (as_one number is) (λ c. own c x) k) (omega arith) (omega (arith, l)) h
 
-  pub comes-back : (a : Action) → ((t : ℕ) → t < length (s ∷ ss) → types t ≡ (kinds t).device) → ((t which : ℕ) → t < length (s ∷ ss) → word_of (types t) which < 2 ^ 32)
-      → IsInside (length (s ∷ ss)) a → Told types seen a → Ahead kinds stages number a 0 (s ∷ ss) (datagram_of a number)
+  pub comes-back : (a : Action) → ((t : ℕ) → t < length (s ∷ ss) → (types t).device ≡ (kinds t).device) → ((t which : ℕ) → t < length (s ∷ ss) → word_of (types t).device which < 2 ^ 32)
+      → (hw ≡ false → (i : ℕ) → i < length (s ∷ ss) → (kinds i).hardware ≡ None) → IsInside hw (length (s ∷ ss)) a → Told types seen a → Ahead kinds stages number a 0 (s ∷ ss) (datagram_of a number)
       → verdict (length (s ∷ ss)) step seen types a (all_passed (s ∷ ss) (datagram_of a number)) ≡ wanted types a
-  comes-back CountSlaves same big inside told h = right _ _ _ _ (all-count kinds stages number CountSlaves (s ∷ ss) refl (λ i x d k. look-step x d number k) h)
-  comes-back AskInit same big inside told h =
-      right _ _ _ _ (write-count kinds stages number AskInit 0x0120 (0x11 ∷ 0 ∷ []) (s ∷ ss) refl (λ i x q. q) (omega arith) (omega arith) refl h)
-  comes-back AwaitInit same big inside told h =
+  comes-back CountSlaves same big bare inside told h = right _ _ _ _ (all-count kinds stages number CountSlaves (s ∷ ss) refl (λ i x d b p k. look-step x d number k) h)
+  comes-back AskInit same big bare inside told h =
+      right _ _ _ _ (write-count kinds stages number AskInit 0x0120 (0x11 ∷ 0 ∷ []) (s ∷ ss) refl (λ i x q. q) (omega arith) (omega arith) refl (λ i x b p. has-below x.kind.hardware 0x0120 (omega arith)) h)
+  comes-back AwaitInit same big bare inside told h =
       let z : slice_index (datagram_of AwaitInit number).data_bytes 0 ≡ 0 = refl in
       let x = init-all kinds stages number 0 s ss (datagram_of AwaitInit number) (omega (arith, z)) refl h in
       let w : word_at (all_passed (s ∷ ss) (datagram_of AwaitInit number)).data_bytes 0 ≡ 1 = omega (arith, x.0, x.1) in
-      right _ _ _ _ (all-count kinds stages number AwaitInit (s ∷ ss) refl (λ i x d k. look-step x d number k) h) ∙ if_true _ _ _ (eq-eqb _ 1 w)
-  comes-back ClearFmmus same big inside told h =
-      right _ _ _ _ (write-count kinds stages number ClearFmmus 0x0600 (zeros 64) (s ∷ ss) refl (λ i x q. q) (omega arith) (omega arith) refl h)
-  comes-back ClearManagers same big inside told h =
-      right _ _ _ _ (write-count kinds stages number ClearManagers 0x0800 (zeros 32) (s ∷ ss) refl (λ i x q. q) (omega arith) (omega arith) refl h)
-  comes-back ClearStations same big inside told h =
-      right _ _ _ _ (write-count kinds stages number ClearStations 0x0010 (zeros 2) (s ∷ ss) refl (λ i x q. q) (omega arith) (omega arith) refl h)
-  comes-back (NameSlave t) same big inside told h =
+      right _ _ _ _ (all-count kinds stages number AwaitInit (s ∷ ss) refl (λ i x d b p k. look-step x d number k) h) ∙ if_true _ _ _ (eq-eqb _ 1 w)
+  comes-back AwaitInitState same big bare inside told h =
+      let z : slice_index (datagram_of AwaitInitState number).data_bytes 0 % 16 ≡ 0 = refl in
+      let x = low-all kinds stages number 0 s ss (datagram_of AwaitInitState number) (omega (arith, z)) h in
+      right _ _ _ _ (all-count kinds stages number AwaitInitState (s ∷ ss) refl (λ i x d b p k. look-step x d number k) h) ∙ if_true _ _ _ (eq-eqb _ 1 x)
+  comes-back ClearAllFmmus same big bare inside told h = refl
+  comes-back ClearAllManagers same big bare inside told h = refl
+  comes-back (AssignSii access) same big bare inside told h = refl
+  comes-back ClearSiiError same big bare inside told h = refl
+  comes-back (FeedPart f) same big bare inside told h = absurd inside
+  comes-back (AwaitCleanInit t) same big bare inside told h =
+      one-ends _ t (ForAwaitCleanInit t) inside h (λ c x l k u can. await-clean-ends (length (s ∷ ss)) step seen types x t number u.configured.station_is l (clean-there (kinds t) t c x l k u can))
+  comes-back ClearFmmus same big bare inside told h =
+      right _ _ _ _ (write-count kinds stages number ClearFmmus 0x0600 (zeros 64) (s ∷ ss) refl (λ i x q. q) (omega arith) (omega arith) refl
+      (λ i x b p. none-missing x.kind.hardware 0x0600 (ap (λ (k : SlaveKind). k.hardware) p.stands.slave.kind_is ∙ bare inside i b)) h)
+  comes-back ClearManagers same big bare inside told h =
+      right _ _ _ _ (write-count kinds stages number ClearManagers 0x0800 (zeros 32) (s ∷ ss) refl (λ i x q. q) (omega arith) (omega arith) refl (λ i x b p. has-above x.kind.hardware 0x0800 (omega arith)) h)
+  comes-back ClearStations same big bare inside told h =
+      right _ _ _ _ (write-count kinds stages number ClearStations 0x0010 (zeros 2) (s ∷ ss) refl (λ i x q. q) (omega arith) (omega arith) refl (λ i x b p. has-below x.kind.hardware 0x0010 (omega arith)) h)
+  comes-back (NameSlave t) same big bare inside told h =
       right _ 1 _ _ (name-reach kinds stages number t 0 (s ∷ ss) (datagram_of (NameSlave t) number) (omega (arith, inside, h.few)) (omega arith) (omega (arith, inside)) refl h)
-  comes-back (AskWord t n) same big inside told h =
+  comes-back (AskWord t n) same big bare inside told h =
       one-ends _ t (ForAskWord t n) inside.0 h (λ c x l k u can. right _ 1 _ _ (ask-word-goes x t n number u.configured.station_is l k.sure))
-  comes-back (AwaitWord t n) same big inside told h =
+  comes-back (AwaitWord t n) same big bare inside told h =
       one-ends _ t (ForAwaitWord t n) inside.0 h (λ c x l k u can. await-word-ends (length (s ∷ ss)) step seen types x t n number u.configured.station_is l inside.1 (big t n inside.0) told
       (subst (λ (y : Device). HasFound (word_of y n) x.sii) (sym (same t inside.0)) (k.sure refl)))
-  comes-back (SetManager t n m) same big inside told h =
-      one-ends _ t (ForSetManager t n m) inside h (λ c x l k u can. right _ 1 _ _ (set-manager-goes x t n m number u.configured.station_is l (omega (arith, can.1, can.2))))
-  comes-back (SetFmmu t n f) same big inside told h =
-      one-ends _ t (ForSetFmmu t n f) inside h (λ c x l k u can. right _ 1 _ _ (set-fmmu-goes x t n f number u.configured.station_is l (omega (arith, can.1, can.2))))
-  comes-back (AskState t to) same big inside told h =
+  comes-back (SetManager t n m r) same big bare inside told h =
+      one-ends _ t (ForSetManager t n m r) inside.0 h (λ c x l k u can. right _ 1 _ _ (set-manager-goes x t n m r number u.configured.station_is l inside.1))
+  comes-back (SetFmmu t n f start) same big bare inside told h =
+      one-ends _ t (ForSetFmmu t n f start) inside h (λ c x l k u can. right _ 1 _ _ (set-fmmu-goes x t n f start number u.configured.station_is l (omega (arith, can.1, can.2))
+      (subst (λ (y : SlaveKind). n < fmmu_count y.hardware) (sym k.stands.slave.kind_is) (k.named refl).1)))
+  comes-back (AskState t to) same big bare inside told h =
       one-ends _ t (ForAskState t to) inside h (λ c x l k u can. right _ 1 _ _ (ask-state-goes x t to number u.configured.station_is l))
-  comes-back (AwaitState t to) same big inside told h =
+  comes-back (AwaitState t to) same big bare inside told h =
       one-ends _ t (ForAwaitState t to) inside h (λ c x l k u can. await-state-ends (length (s ∷ ss)) step seen types x t to number u.configured.station_is l (k.sure refl))
-  comes-back (SendRequest t n b r) same big inside told h =
+  comes-back (SendRequest t n b r) same big bare inside told h =
       one-ends _ t (ForSend t n b r) inside h
       (λ c x l k u can. right _ 1 _ _ (request-goes x t n c b r number u.configured.station_is l k.stands.slave.four can.2 u (subst (λ (o : Option Talk). Talks t c o x) can.1 u.talks).no_message))
-  comes-back (AwaitReply t b r) same big inside told h =
+  comes-back (AwaitReply t b r) same big bare inside told h =
       one-ends _ t (ForAwaitReply t b r) inside h
       (λ c x l k u can. await-reply-ends (length (s ∷ ss)) step seen types x t b r number u.configured.station_is l (boxes-of t b c x k.stands.slave.four can.2 u) (k.sure refl))

@@ -1,5 +1,5 @@
 -- A reply is read from a slave's mailbox.
-use Rattle.ec_bringup.proofs.Words.{ℕ, ◌+◌, ◌-◌, ◌/◌, ◌%◌, ◌<◌, ◌≤◌, ◌≡◌, ◌⊎◌, ◌&&◌, not, Bool, true, false, Option, Some, None, refl, sym, ◌∙◌, ap, subst, inl, inr, arith, List, [], ◌∷◌, length, slice_index, is_some, is_none, unwrap_or, from_bool, and_from, and_left, and_right, lt-ltb, eqb-true, length-replicate, zeros, any_below, if_true, if_false, within_true, within_below, within_above, any_below_none, any_below_from, SyncManagerSettings, Mailbox, SlaveKind, ram_start, ram_end, is_set, is_mailbox, is_master_written, is_master_read, span, SyncManager, may_read, is_enabled, visible, covers, governor, governs, in_first_buffer, Fprd, Datagram, IsDatagram, adp_of, SlaveState, Meeting, manager_at, station_of, reads_under, is_ungoverned, Window, touches, physical_after, physical_manager, physical_managers, may_read_byte, some_byte_read, byte_read, byte_at, ram_byte, updated, window_of, slave_met, datagram_met, message_read, fmmu_bytes, settings_at, fmmu_at, AwaitReply, SdoRequest, station, datagram_of, message_verdict, Next, Rise, Config, Stage, Up, Talk, answered, after, CanAct, AreMailboxes, IsOfKind, IsAssigned, Talks, IsUpAt, Rises, Reached, IsGone, HadFault, Stands, Met, reads_meet, accesses_leave, managers_accessed, ram_governed, updated_whole, ne_eqb}
+use Rattle.ec_bringup.proofs.Words.{ℕ, ◌+◌, ◌-◌, ◌/◌, ◌%◌, ◌<◌, ◌≤◌, ◌≡◌, ◌⊎◌, ◌&&◌, not, Bool, true, false, Option, Some, None, refl, sym, ◌∙◌, ap, subst, inl, inr, arith, List, [], ◌∷◌, length, slice_index, is_some, is_none, unwrap_or, from_bool, and_from, and_left, and_right, lt-ltb, eqb-true, length-replicate, zeros, any_below, if_true, if_false, within_true, within_below, within_above, any_below_none, any_below_from, SyncManagerSettings, Mailbox, SlaveKind, ram_start, ram_end, is_set, is_mailbox, is_master_written, is_master_read, span, SyncManager, may_read, is_enabled, visible, covers, governor, governs, in_first_buffer, Fprd, Datagram, IsDatagram, adp_of, SlaveState, Meeting, manager_at, station_of, reads_under, is_ungoverned, Window, touches, physical_after, physical_manager, physical_managers, may_read_byte, some_byte_read, byte_read, byte_at, ram_byte, updated, window_of, slave_met, datagram_met, message_read, fmmu_bytes, shown_fmmu, settings_at, fmmu_at, AwaitReply, SdoRequest, station, datagram_of, message_verdict, Next, Rise, Config, Stage, Up, Talk, answered, after, CanAct, AreMailboxes, IsOfKind, IsAssigned, Talks, IsUpAt, Rises, Reached, IsGone, HadFault, Stands, Met, reads_meet, accesses_leave, managers_accessed, ram_governed, updated_whole, ne_eqb, Hardware}
 use Rattle.ec_bringup.proofs.OneSlave.Alike.{rises-alike}
 use Rattle.ec_bringup.proofs.OneFrame.RegisterWrites.{window-sent, reads-on, gone-passes}
 use Rattle.ec_bringup.proofs.OneFrame.RegisterPolls.{own-reads, read-slave, read-bytes}
@@ -118,19 +118,19 @@ readable b s k r h l e =
 
 -- ---- the managers after the read
 
-met-kept : (lower : List SyncManager) (w : Window) (n : ℕ) (m : SyncManager) → may_read m ≡ false → physical_manager lower true false w n m ≡ m
-met-kept lower w n m e = (managers_accessed lower w n m).read ∙ if_false _ _ _ (and_left (may_read m) _ e)
+met-kept : (o : Option Hardware) (lower : List SyncManager) (w : Window) (n : ℕ) (m : SyncManager) → may_read m ≡ false → physical_manager o lower true false w n m ≡ m
+met-kept o lower w n m e = (managers_accessed o lower w n m).read ∙ if_false _ _ _ (and_left (may_read m) _ e)
 
-managers-after : (b : Mailbox) (s : SlaveState) (x : SyncManager) → Boxes b s → physical_manager (manager_at s.managers 0 ∷ []) true false (asking b) 1 (manager_at s.managers 1) ≡ x
-    → physical_managers [] true false (asking b) 0 s.managers ≡ manager_at s.managers 0 ∷ x ∷ manager_at s.managers 2 ∷ manager_at s.managers 3 ∷ []
+managers-after : (b : Mailbox) (s : SlaveState) (x : SyncManager) → Boxes b s → physical_manager s.kind.hardware (manager_at s.managers 0 ∷ []) true false (asking b) 1 (manager_at s.managers 1) ≡ x
+    → physical_managers s.kind.hardware [] true false (asking b) 0 s.managers ≡ manager_at s.managers 0 ∷ x ∷ manager_at s.managers 2 ∷ manager_at s.managers 3 ∷ []
 managers-after b s x h e =
     let m0 = manager_at s.managers 0 in let m1 = manager_at s.managers 1 in let m2 = manager_at s.managers 2 in let m3 = manager_at s.managers 3 in
-    ap (λ (ms : List SyncManager). physical_managers [] true false (asking b) 0 ms) (four-of s.managers h.four)
-    ∙ list4 _ _ _ _ _ _ _ _ (met-kept [] (asking b) 0 m0 h.first_read) e (met-kept (m0 ∷ m1 ∷ []) (asking b) 2 m2 h.third) (met-kept (m0 ∷ m1 ∷ m2 ∷ []) (asking b) 3 m3 h.fourth)
+    ap (λ (ms : List SyncManager). physical_managers s.kind.hardware [] true false (asking b) 0 ms) (four-of s.managers h.four)
+    ∙ list4 _ _ _ _ _ _ _ _ (met-kept s.kind.hardware [] (asking b) 0 m0 h.first_read) e (met-kept s.kind.hardware (m0 ∷ m1 ∷ []) (asking b) 2 m2 h.third) (met-kept s.kind.hardware (m0 ∷ m1 ∷ m2 ∷ []) (asking b) 3 m3 h.fourth)
 
 -- nothing to read
 pub unread : (b : Mailbox) (s : SlaveState) → Boxes b s → may_read (manager_at s.managers 1) ≡ false → physical_after s true false (asking b) ≡ s
-unread b s h e = (accesses_leave s (asking b)).read ∙ (ap (λ (ms : List SyncManager). record s { managers = ms }) (managers-after b s (manager_at s.managers 1) h (met-kept (manager_at s.managers 0 ∷ []) (asking b) 1 (manager_at s.managers 1) e) ∙ sym (four-of s.managers h.four)))
+unread b s h e = (accesses_leave s (asking b)).read ∙ (ap (λ (ms : List SyncManager). record s { managers = ms }) (managers-after b s (manager_at s.managers 1) h (met-kept s.kind.hardware (manager_at s.managers 0 ∷ []) (asking b) 1 (manager_at s.managers 1) e) ∙ sym (four-of s.managers h.four)))
 
 -- the reply is read, and the mailbox empty
 abbrev pub emptied : SlaveState → SlaveState
@@ -138,7 +138,7 @@ emptied s = record s { managers = with_mails s.managers (manager_at s.managers 0
 
 pub read-out : (b : Mailbox) (s : SlaveState) → Boxes b s → may_read (manager_at s.managers 1) ≡ true → physical_after s true false (asking b) ≡ emptied s
 read-out b s h e = (accesses_leave s (asking b)).read ∙ ap (λ (ms : List SyncManager). record s { managers = ms }) (managers-after b s (record (manager_at s.managers 1) { mail = None }) h
-    ((managers_accessed (manager_at s.managers 0 ∷ []) (asking b) 1 (manager_at s.managers 1)).read ∙ (if_true _ _ _ (and_from _ _ e (and_from _ _ (covered b s h) (own-byte b s h))) ∙ if_true _ _ _ h.box)))
+    ((managers_accessed s.kind.hardware (manager_at s.managers 0 ∷ []) (asking b) 1 (manager_at s.managers 1)).read ∙ (if_true _ _ _ (and_from _ _ e (and_from _ _ (covered b s h) (own-byte b s h))) ∙ if_true _ _ _ h.box)))
 
 -- ---- the data
 
@@ -167,6 +167,7 @@ emptied-slave kind s h = record {
   ins = h.ins;
   fixed = λ e. let f = h.fixed e in record { outs = f.outs; ins = f.ins };
   unlocked_in_init = λ e n l. mails-locked s.managers (manager_at s.managers 0).mail None n l ∙ h.unlocked_in_init e n l;
+  missing = h.missing;
 }
 
 emptied-up : (i : ℕ) (c d : Config) (s : SlaveState) → SameFrame c d → (manager_at s.managers 0).mail ≡ None → IsAssigned d s → IsUpAt i c s → IsUpAt i d (emptied s)
@@ -174,13 +175,13 @@ emptied-up i c d s f none done u = record {
   configured = record {
     station_is = u.configured.station_is;
     settings = λ n l. mails-settings s.managers (manager_at s.managers 0).mail None n l ∙ (u.configured.settings n l ∙ ap (λ (ms : List SyncManagerSettings). settings_at ms n) (sym f.managers));
-    fmmus = λ n k l m. u.configured.fmmus n k l m ∙ ap (λ fs. slice_index (fmmu_bytes (fmmu_at fs n)) k) (sym f.fmmus);
+    fmmus = λ n k l m. u.configured.fmmus n k l m ∙ ap (λ fs. slice_index (fmmu_bytes (shown_fmmu s.kind.hardware (fmmu_at fs n))) k) (sym f.fmmus);
     idle = λ e. u.configured.idle (sym f.idle ∙ e);
     no_messages = λ n a l. mails-mail s.managers (manager_at s.managers 0).mail None n (omega (arith, a)) (λ e. absurd (omega (arith, a, e))) l ∙ u.configured.no_messages n a l;
     outputs = u.configured.outputs;
   };
   unlocked = λ n l. mails-locked s.managers (manager_at s.managers 0).mail None n l ∙ u.unlocked n l;
-  rises = subst (λ (r : Rise). Rises r (emptied s)) (sym f.rise) (rises-alike c.rise s (emptied s) refl refl u.rises);
+  rises = subst (λ (r : Rise). Rises r (emptied s)) (sym f.rise) (rises-alike c.rise s (emptied s) refl refl refl u.rises);
   talks = subst (λ (o : Option Talk). Talks i d o (emptied s)) (sym f.talk) (record {
     no_message = none;
     no_reply = refl;

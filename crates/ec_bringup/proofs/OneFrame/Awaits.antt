@@ -1,5 +1,5 @@
 -- The polls of a start-up at a slave that has what is waited for: one poll ends the wait.
-use Rattle.ec_bringup.proofs.Words.{ℕ, zero, suc, ◌+◌, ◌*◌, ◌%◌, ◌^◌, ◌<◌, ◌≤◌, ◌≡◌, ◌==◌, ◌&&◌, not, Bool, true, false, Some, refl, sym, ◌∙◌, ap, arith, List, length, slice_index, is_some, bit_at, to_le_bytes, w32, from_bool, from_le_bytes-to_le_bytes_4, eq-eqb, and_from, length-replicate, zeros, if_true, if_false, Device, Mailbox, ram_start, Fprd, adp_of, State, Init, state_number, may_read, SlaveState, station_of, manager_at, Window, byte_at, byte_read, updated, some_byte_read, window_of, datagram_met, message_read, AwaitWord, AwaitState, AwaitReply, SdoRequest, station, sent, datagram_of, Next, Word, with_word, is_device, word_at, long_at, word_verdict, message_verdict, verdict, shows_itself}
+use Rattle.ec_bringup.proofs.Words.{ℕ, zero, suc, ◌+◌, ◌*◌, ◌%◌, ◌^◌, ◌<◌, ◌≤◌, ◌≡◌, ◌==◌, ◌&&◌, not, Bool, true, false, Some, refl, sym, ◌∙◌, ap, arith, List, length, slice_index, is_some, bit_at, to_le_bytes, w32, from_bool, from_le_bytes-to_le_bytes_4, eq-eqb, and_from, length-replicate, zeros, if_true, if_false, Device, Mailbox, ram_start, Fprd, adp_of, State, Init, state_number, may_read, SlaveState, station_of, manager_at, Window, byte_at, byte_read, updated, some_byte_read, window_of, datagram_met, message_read, AwaitWord, AwaitState, AwaitCleanInit, AwaitReply, SdoRequest, WantedDevice, or_right, station, sent, datagram_of, Next, Word, with_word, is_device, word_at, long_at, word_verdict, message_verdict, verdict, shows_itself}
 use Rattle.ec_bringup.proofs.OneFrame.RegisterWrites.{window-sent}
 use Rattle.ec_bringup.proofs.OneFrame.RegisterPolls.{read-byte, read-bytes, register-shows}
 use Rattle.ec_bringup.proofs.Mailbox.AwaitReply.{Boxes, asking, read-counter, some-read, raw-read}
@@ -23,7 +23,7 @@ same-state : (st : State) → (state_number st % 32 == state_number st) ≡ true
 same-state Init = refl
 same-state _ = refl
 
-pub await-state-ends : (n step : ℕ) (seen : Device) (types : ℕ → Device) (s : SlaveState) (i : ℕ) (state : State) (number : ℕ) → station_of s ≡ station i → i < 64 → IsThere state s
+pub await-state-ends : (n step : ℕ) (seen : Device) (types : ℕ → WantedDevice) (s : SlaveState) (i : ℕ) (state : State) (number : ℕ) → station_of s ≡ station i → i < 64 → IsThere state s
     → verdict n step seen types (AwaitState i state) (datagram_met s (datagram_of (AwaitState i state) number)) ≡ Next
 await-state-ends n step seen types s i state number e l h =
     let b : slice_index (datagram_met s (datagram_of (AwaitState i state) number)).data_bytes 0 ≡ state_number state
@@ -33,6 +33,16 @@ await-state-ends n step seen types s i state number e l h =
   where
     more : (n : ℕ) → n + 16 * 0 ≡ n
     more n = omega arith
+
+-- ---- INIT, without an error
+
+pub await-clean-ends : (n step : ℕ) (seen : Device) (types : ℕ → WantedDevice) (s : SlaveState) (i : ℕ) (number : ℕ) → station_of s ≡ station i → i < 64 → IsThere Init s
+    → verdict n step seen types (AwaitCleanInit i) (datagram_met s (datagram_of (AwaitCleanInit i) number)) ≡ Next
+await-clean-ends n step seen types s i number e l h =
+    let b : slice_index (datagram_met s (datagram_of (AwaitCleanInit i) number)).data_bytes 0 ≡ 1
+    = back s i 0x0130 6 number 0 e l (omega arith) (omega arith) ∙ ((shows_itself s).status ∙ (ap (λ (x : State). state_number x + 16 * from_bool s.al.error) h.state_is ∙ ap (λ (x : Bool). 1 + 16 * from_bool x) h.no_error)) in
+    if_true _ _ _ (eq-eqb _ 1 (register-shows s i 0x0130 (zeros 6) number 0 e l (omega arith) (omega arith)))
+    ∙ if_true _ _ _ (eq-eqb _ 1 (ap (λ (x : ℕ). x % 32) b))
 
 -- ---- a word
 
@@ -47,23 +57,23 @@ Tells t s zero = Unit {0}
 Tells t s (suc zero) = s.vendor ≡ t.vendor
 Tells t s (suc (suc which)) = (s.vendor ≡ t.vendor) × (s.product ≡ t.product)
 
-fits : (t : Device) (s : Device) (which : ℕ) → which < 3 → Tells t s which → ((which == 2) && not (is_device t (with_word s which (word_of t which)))) ≡ false
+fits : (t : WantedDevice) (s : Device) (which : ℕ) → which < 3 → Tells t.device s which → ((which == 2) && not (is_device t (with_word s which (word_of t.device which)))) ≡ false
 fits t s (suc (suc zero)) l h =
-    ap not (and_from _ _ (eq-eqb t.vendor s.vendor (sym h.0)) (and_from _ _ (eq-eqb t.product s.product (sym h.1)) (eq-eqb t.revision t.revision refl)))
+    ap not (and_from _ _ (eq-eqb t.device.vendor s.vendor (sym h.0)) (and_from _ _ (eq-eqb t.device.product s.product (sym h.1)) (or_right t.any_revision _ (eq-eqb t.device.revision t.device.revision refl))))
 fits t s (suc (suc (suc which))) l h = absurd (omega (arith, l))
 fits t s _ l h = refl
 
-pub word-ends : (t : Device) (seen : Device) (i which : ℕ) (bytes : List ℕ) → which < 3 → Tells t seen which → word_at bytes 0 ≡ 0 → long_at bytes 6 ≡ word_of t which
-    → word_verdict t seen i which bytes ≡ Word (word_of t which)
+pub word-ends : (t : WantedDevice) (seen : Device) (i which : ℕ) (bytes : List ℕ) → which < 3 → Tells t.device seen which → word_at bytes 0 ≡ 0 → long_at bytes 6 ≡ word_of t.device which
+    → word_verdict t seen i which bytes ≡ Word (word_of t.device which)
 word-ends t seen i which bytes l h z e =
     if_false _ _ _ (ap (λ (x : ℕ). bit_at x 13 == 1) z)
     ∙ (if_false _ _ _ (ap (λ (x : ℕ). bit_at x 15 == 1) z)
     ∙ (if_false _ _ _ (ap (λ (x : ℕ). (which == 2) && not (is_device t (with_word seen which x))) e ∙ fits t seen which l h)
     ∙ ap (λ (x : ℕ). Word x) e))
 
-pub await-word-ends : (n step : ℕ) (seen : Device) (types : ℕ → Device) (s : SlaveState) (i which : ℕ) (number : ℕ) → station_of s ≡ station i → i < 64 → which < 3
-    → word_of (types i) which < 2 ^ 32 → Tells (types i) seen which → HasFound (word_of (types i) which) s.sii
-    → verdict n step seen types (AwaitWord i which) (datagram_met s (datagram_of (AwaitWord i which) number)) ≡ Word (word_of (types i) which)
+pub await-word-ends : (n step : ℕ) (seen : Device) (types : ℕ → WantedDevice) (s : SlaveState) (i which : ℕ) (number : ℕ) → station_of s ≡ station i → i < 64 → which < 3
+    → word_of (types i).device which < 2 ^ 32 → Tells (types i).device seen which → HasFound (word_of (types i).device which) s.sii
+    → verdict n step seen types (AwaitWord i which) (datagram_met s (datagram_of (AwaitWord i which) number)) ≡ Word (word_of (types i).device which)
 await-word-ends n step seen types s i which number e l w big told h =
     let low : slice_index (datagram_met s (datagram_of (AwaitWord i which) number)).data_bytes 0 ≡ 0 = back s i 0x0502 10 number 0 e l (omega arith) (omega arith) ∙ (shows_itself s).sii_low in
     let high : slice_index (datagram_met s (datagram_of (AwaitWord i which) number)).data_bytes 1 ≡ 0
@@ -71,7 +81,7 @@ await-word-ends n step seen types s i which number e l w big told h =
     if_true _ _ _ (eq-eqb _ 1 (register-shows s i 0x0502 (zeros 10) number 0 e l (omega arith) (omega arith)))
     ∙ word-ends (types i) seen i which (datagram_met s (datagram_of (AwaitWord i which) number)).data_bytes w told
     (omega (arith, low, high))
-    (long-spells (datagram_met s (datagram_of (AwaitWord i which) number)).data_bytes (word_of (types i) which) big
+    (long-spells (datagram_met s (datagram_of (AwaitWord i which) number)).data_bytes (word_of (types i).device which) big
     (λ j b. back s i 0x0502 10 number (6 + j) e l (omega arith) (omega (arith, b)) ∙ (moved j ∙ ((shows_itself s).sii_found j b ∙ ap (λ (x : ℕ). slice_index (to_le_bytes w32 x) j) h.found_is))))
   where
     moved : (j : ℕ) → byte_at s (0x0502 + (6 + j)) ≡ byte_at s (0x0508 + j)
@@ -86,7 +96,7 @@ pub record HasReply (i : ℕ) (r : SdoRequest) (size : ℕ) (s : SlaveState) : T
   pub mail : (manager_at s.managers 1).mail ≡ Some raw
   pub fits : message_verdict i r (message_read raw) ≡ Next
 
-pub await-reply-ends : (n step : ℕ) (seen : Device) (types : ℕ → Device) (s : SlaveState) (i : ℕ) (b : Mailbox) (r : SdoRequest) (number : ℕ) → station_of s ≡ station i → i < 64
+pub await-reply-ends : (n step : ℕ) (seen : Device) (types : ℕ → WantedDevice) (s : SlaveState) (i : ℕ) (b : Mailbox) (r : SdoRequest) (number : ℕ) → station_of s ≡ station i → i < 64
     → Boxes b s → HasReply i r b.send_size s
     → verdict n step seen types (AwaitReply i b r) (datagram_met s (datagram_of (AwaitReply i b r) number)) ≡ Next
 await-reply-ends n step seen types s i b r number e l bx h =

@@ -1,5 +1,5 @@
 -- A frame of a start-up at a slave that its second datagram is not for.
-use Rattle.ec_bringup.proofs.Words.{ℕ, ◌+◌, ◌*◌, ◌%◌, ◌<◌, ◌≡◌, ◌≢◌, ◌⊎◌, Bool, refl, sym, ◌∙◌, ap, subst, inl, inr, arith, slice_index, cases_eq, ne_eqb, if_false, SlaveKind, Command, Fprd, Fpwr, Fprw, Datagram, IsDatagram, SlaveState, Meeting, station_of, power_on, meets, slave_met, datagram_met, other_station_passes, Action, AskWord, AwaitWord, SetManager, SetFmmu, AskState, AwaitState, SendRequest, AwaitReply, SdoRequest, station, at, datagram_of, Stage, Up, if_mine, after, Fits, IsUp, Stands, switched_on, Untouched, ReadsOn, Arrives, IsOther, Met, Config, FitsOne, FmmuSettings, Mailbox, State, SyncManagerSettings, eq-eqb, if_true, config_after, up_after}
+use Rattle.ec_bringup.proofs.Words.{ℕ, ◌+◌, ◌*◌, ◌%◌, ◌<◌, ◌≡◌, ◌≢◌, ◌⊎◌, Bool, refl, sym, ◌∙◌, ap, subst, inl, inr, arith, slice_index, cases_eq, ne_eqb, if_false, SlaveKind, Command, Fprd, Fpwr, Fprw, Datagram, IsDatagram, SlaveState, Meeting, station_of, power_on, meets, slave_met, datagram_met, other_station_passes, Action, AskWord, AwaitWord, SetManager, SetFmmu, AskState, AwaitState, SendRequest, AwaitReply, SdoRequest, station, at, datagram_of, Stage, Up, if_mine, after, Fits, IsUp, Stands, switched_on, Untouched, ReadsOn, Arrives, IsOther, Met, Config, FitsOne, FmmuSettings, Mailbox, State, SyncManagerSettings, eq-eqb, if_true, config_after, up_after, AwaitCleanInit, ManagerRegister}
 
 -- ---- station addresses
 
@@ -44,8 +44,9 @@ pub data IsFor : ℕ → Action → Type 0 where
   ForAwaitWord : (t which : ℕ) → IsFor t (AwaitWord t which)
   ForAskState : (t : ℕ) (state : State) → IsFor t (AskState t state)
   ForAwaitState : (t : ℕ) (state : State) → IsFor t (AwaitState t state)
-  ForSetManager : (t n : ℕ) (m : SyncManagerSettings) → IsFor t (SetManager t n m)
-  ForSetFmmu : (t n : ℕ) (f : FmmuSettings) → IsFor t (SetFmmu t n f)
+  ForAwaitCleanInit : (t : ℕ) → IsFor t (AwaitCleanInit t)
+  ForSetManager : (t n : ℕ) (m : SyncManagerSettings) (r : ManagerRegister) → IsFor t (SetManager t n m r)
+  ForSetFmmu : (t n : ℕ) (f : FmmuSettings) (start : ℕ) → IsFor t (SetFmmu t n f start)
   ForSend : (t counter : ℕ) (b : Mailbox) (r : SdoRequest) → IsFor t (SendRequest t counter b r)
   ForAwaitReply : (t : ℕ) (b : Mailbox) (r : SdoRequest) → IsFor t (AwaitReply t b r)
 
@@ -68,8 +69,9 @@ as_one number (ForAskWord t which) = record { e = datagram_of (AskWord t which) 
 as_one number (ForAwaitWord t which) = record { e = datagram_of (AwaitWord t which) number; ado = 0x0502; command = inl refl; address = refl; arrives = λ j d h. h; arrived = λ j d h. h; fits = λ i st h. h; fit = λ i st h. h; leads = λ i st. refl; is_other = λ i ne. ne; other = λ i o. o }
 as_one number (ForAskState t state) = record { e = datagram_of (AskState t state) number; ado = 0x0120; command = inr refl; address = refl; arrives = λ j d h. h; arrived = λ j d h. h; fits = λ i st h. h; fit = λ i st h. h; leads = λ i st. refl; is_other = λ i ne. ne; other = λ i o. o }
 as_one number (ForAwaitState t state) = record { e = datagram_of (AwaitState t state) number; ado = 0x0130; command = inl refl; address = refl; arrives = λ j d h. h; arrived = λ j d h. h; fits = λ i st h. h; fit = λ i st h. h; leads = λ i st. refl; is_other = λ i ne. ne; other = λ i o. o }
-as_one number (ForSetManager t n m) = record { e = datagram_of (SetManager t n m) number; ado = 0x0800 + 8 * n; command = inr refl; address = refl; arrives = λ j d h. h; arrived = λ j d h. h; fits = λ i st h. h; fit = λ i st h. h; leads = λ i st. refl; is_other = λ i ne. ne; other = λ i o. o }
-as_one number (ForSetFmmu t n f) = record { e = datagram_of (SetFmmu t n f) number; ado = 0x0600 + 16 * n; command = inr refl; address = refl; arrives = λ j d h. h; arrived = λ j d h. h; fits = λ i st h. h; fit = λ i st h. h; leads = λ i st. refl; is_other = λ i ne. ne; other = λ i o. o }
+as_one number (ForAwaitCleanInit t) = record { e = datagram_of (AwaitCleanInit t) number; ado = 0x0130; command = inl refl; address = refl; arrives = λ j d h. h; arrived = λ j d h. h; fits = λ i st h. h; fit = λ i st h. h; leads = λ i st. refl; is_other = λ i ne. ne; other = λ i o. o }
+as_one number (ForSetManager t n m r) = record { e = datagram_of (SetManager t n m r) number; ado = 0x0800 + 8 * r.number; command = inr refl; address = refl; arrives = λ j d h. h; arrived = λ j d h. h; fits = λ i st h. h; fit = λ i st h. h; leads = λ i st. refl; is_other = λ i ne. ne; other = λ i o. o }
+as_one number (ForSetFmmu t n f start) = record { e = datagram_of (SetFmmu t n f start) number; ado = 0x0600 + 16 * n; command = inr refl; address = refl; arrives = λ j d h. h; arrived = λ j d h. h; fits = λ i st h. h; fit = λ i st h. h; leads = λ i st. refl; is_other = λ i ne. ne; other = λ i o. o }
 as_one number (ForSend t counter b r) = record { e = datagram_of (SendRequest t counter b r) number; ado = b.receive_start; command = inr refl; address = refl; arrives = λ j d h. h; arrived = λ j d h. h; fits = λ i st h. h; fit = λ i st h. h; leads = λ i st. refl; is_other = λ i ne. ne; other = λ i o. o }
 as_one number (ForAwaitReply t b r) = record { e = datagram_of (AwaitReply t b r) number; ado = b.send_start; command = inl refl; address = refl; arrives = λ j d h. h; arrived = λ j d h. h; fits = λ i st h. h; fit = λ i st h. h; leads = λ i st. refl; is_other = λ i ne. ne; other = λ i o. o }
 

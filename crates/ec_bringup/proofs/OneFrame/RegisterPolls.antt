@@ -1,6 +1,6 @@
 -- A poll of registers at the slave that it is for.
-use Rattle.ec_bringup.proofs.Words.{ℕ, ◌+◌, ◌*◌, ◌%◌, ◌<◌, ◌≤◌, ◌≡◌, ◌≢◌, ◌⊎◌, Bool, true, false, Option, None, refl, sym, ◌∙◌, ap, subst, inl, inr, arith, List, length, slice_index, bit_at, from_bool, eq-eqb, both_ways, or_left, zeros, if_true, any_below_from, SlaveKind, ram_start, takes_writes, Command, Fprd, Fpwr, Datagram, IsDatagram, adp_of, State, Init, PreOp, SafeOp, Op, state_number, role_of, is_reading, is_writing, is_joining, SlaveState, Meeting, station_of, Window, touches, physical_after, byte_at, byte_read, updated, may_read_byte, may_write_byte, some_byte_read, is_written, window_of, slave_met, datagram_met, OnlyReads, OnlyWrites, reads_meet, writes_meet, registers_open, registers_read, shows_itself, reads_by_byte, Action, AwaitState, AwaitWord, station, at, sent, Rise, Stays, Climbs, Config, Stage, Up, Talk, config_after, after, CanAct, IsClimbing, IsStepUp, IsConfigured, IsIn, StaysIn, Rises, IsSilent, Talks, IsUpAt, Reached, IsGone, IsFaulted, IsTop, HadFault, Stands, Untouched, MayEnd, Met}
-use Rattle.ec_bringup.proofs.OneFrame.OtherSlaves.{IsOne, ForAwaitState, ForAwaitWord, Owes, as_one, mine-told}
+use Rattle.ec_bringup.proofs.Words.{ℕ, ◌+◌, ◌*◌, ◌%◌, ◌<◌, ◌≤◌, ◌≡◌, ◌≢◌, ◌⊎◌, Bool, true, false, Option, None, refl, sym, ◌∙◌, ap, subst, inl, inr, arith, List, length, slice_index, bit_at, from_bool, eq-eqb, both_ways, or_left, zeros, if_true, any_below_from, SlaveKind, ram_start, takes_writes, Command, Fprd, Fpwr, Datagram, IsDatagram, adp_of, State, Init, PreOp, SafeOp, Op, state_number, role_of, is_reading, is_writing, is_joining, SlaveState, Meeting, station_of, Window, touches, physical_after, byte_at, byte_read, updated, may_read_byte, may_write_byte, some_byte_read, is_written, window_of, slave_met, datagram_met, OnlyReads, OnlyWrites, reads_meet, writes_meet, registers_open, registers_read, shows_itself, reads_by_byte, Action, AwaitState, AwaitWord, station, at, sent, Rise, Stays, Climbs, Config, Stage, Up, Talk, config_after, after, CanAct, IsClimbing, IsStepUp, IsConfigured, IsIn, StaysIn, Rises, IsSilent, Talks, IsUpAt, Reached, IsGone, IsFaulted, IsTop, HadFault, Stands, Untouched, MayEnd, Met, AwaitCleanInit, Falls, IsInInit, IsAtInit, is_missing, if_false, if◌then◌else◌}
+use Rattle.ec_bringup.proofs.OneFrame.OtherSlaves.{IsOne, ForAwaitCleanInit, ForAwaitState, ForAwaitWord, Owes, as_one, mine-told}
 use Rattle.ec_bringup.proofs.OneFrame.RegisterWrites.{window-sent, own-writes, reads-on, gone-passes}
 use Rattle.ec_bringup.proofs.OneFrame.SetRegisters.{low-top}
 
@@ -80,6 +80,7 @@ in-stays _ Init s h k = absurd h
 in-stays from _ s h k = k
 
 await-rises : (r : Rise) (to : State) (s : SlaveState) → IsClimbing r to → s.al.error ≡ false → state_number s.al.state ≡ state_number to → Rises r s → StaysIn to s
+await-rises Falls to s can e n h = absurd can
 await-rises (Stays from) to s can e n h = absurd can
 await-rises (Climbs from other) to s (step, same) e n (up, inl h) = absurd (not-yet from to step (ap state_number (sym h.state) ∙ n))
 await-rises (Climbs from other) to s (step, same) e n (up, inr (inl h)) = in-stays from to s step (subst (λ (x : State). IsIn x s) same h)
@@ -109,6 +110,7 @@ await-up i c to s d none can e m u =
     }
 
 top-climbs : (r : Rise) (to : State) → IsClimbing r to → IsTop r → IsTop (Stays to)
+top-climbs Falls to can top = absurd can
 top-climbs (Stays from) to can top = absurd can
 top-climbs (Climbs SafeOp Op) to (step, same) top = subst (λ (x : State). IsTop (Stays x)) same tt
 top-climbs _ to can top = absurd top
@@ -135,6 +137,49 @@ pass-await-state kind i c trouble state number d s l can good arrives h =
     (window-sent Fprd (station i) 0x0130 (zeros 6) number) (omega arith) (omega arith)
     (λ shown m u. await-up i c state s (datagram_met s d) can.0 can.1 (shown 0 (omega arith)) m u)
     (λ g. await-faulted i c state s can.1 g)
+    good arrives h
+
+-- ---- INIT without an error
+
+shows-clean : (st : State) (e : Bool) → (state_number st + 16 * from_bool e) % 32 ≡ 1 → e ≡ false
+shows-clean Init false n = refl
+shows-clean _ false n = refl
+shows-clean Init true n = absurd (omega (arith, n))
+shows-clean PreOp true n = absurd (omega (arith, n))
+shows-clean SafeOp true n = absurd (omega (arith, n))
+shows-clean Op true n = absurd (omega (arith, n))
+
+-- what is known in INIT, once no error is shown
+clean-rises : (r : Rise) (s : SlaveState) → IsAtInit r → s.al.error ≡ false → Rises r s → IsInInit s
+clean-rises Falls s at e h = record { state = h.state; no_error = λ f. e; asked = h.asked }
+clean-rises (Stays Init) s at e h = h
+clean-rises _ s at e h = absurd at
+
+clean-up : (i : ℕ) (c : Config) (s : SlaveState) (d : Datagram) → c.talk ≡ None → IsAtInit c.rise
+    → slice_index d.data_bytes 0 ≡ byte_at s 0x0130 → MayEnd (AwaitCleanInit i) d → IsUpAt i c s → IsUpAt i (record c { rise = Stays Init }) s
+clean-up i c s d none at e m u =
+    let b : slice_index d.data_bytes 0 ≡ state_number s.al.state + 16 * from_bool s.al.error = e ∙ (shows_itself s).status in
+    let k = shows-clean s.al.state s.al.error (subst (λ (x : ℕ). x % 32 ≡ 1) b m.1) in
+    record {
+      configured = known-configured i c c.idle (Stays Init) s u.configured.idle u.configured;
+      unlocked = u.unlocked;
+      rises = clean-rises c.rise s at k u.rises;
+      talks = known-talks i c c.idle (Stays Init) s none u.talks;
+      quiet = λ _. none;
+    }
+
+init-top : (r : Rise) → IsAtInit r → IsTop r → ⊥
+init-top Falls at top = top
+init-top (Stays Init) at top = top
+init-top _ at top = absurd at
+
+pub pass-await-clean : (kind : SlaveKind) (i : ℕ) (c : Config) (trouble : Bool) (number : ℕ) (d : Datagram) (s : SlaveState)
+    → i < 64 → CanAct c (AwaitCleanInit i) → IsDatagram d → Owes kind i (Up c) trouble (AwaitCleanInit i) number d s
+pass-await-clean kind i c trouble number d s l can good arrives h =
+    pass-poll kind i c trouble (AwaitCleanInit i) number d s (record { from = 0x0130; bytes = zeros 6 }) (as_one number (ForAwaitCleanInit i)) l refl
+    (window-sent Fprd (station i) 0x0130 (zeros 6) number) (omega arith) (omega arith)
+    (λ shown m u. clean-up i c s (datagram_met s d) can.1 can.0 (shown 0 (omega arith)) m u)
+    (λ g. absurd (init-top c.rise can.0 g.top))
     good arrives h
 
 -- ---- the SII
@@ -173,21 +218,21 @@ pub register-writes : (s : SlaveState) (w : Window) (k : ℕ) → w.from + k < r
 register-writes s w k l h = (registers_open s.managers (touches w) (w.from + k) l).writes s.sii.busy ∙ h
 
 -- a slave that is told to write counts
-pub write-counts : (s : SlaveState) (d : Datagram) (w : Window) (k : ℕ) → OnlyWrites s d → window_of d ≡ w → k < length w.bytes
+pub write-counts : (s : SlaveState) (d : Datagram) (w : Window) (k : ℕ) → OnlyWrites s d → window_of d ≡ w → k < length w.bytes → is_missing s.kind.hardware (w.from + k) ≡ false
     → may_write_byte s.managers s.sii.busy (touches w) (w.from + k) ≡ true → (datagram_met s d).counter ≡ (d.counter + 1) % 65536
-write-counts s d w k h win l m =
+write-counts s d w k h win l here m =
     (writes_meet s d h).counter
-    ∙ (ap (λ (x : Window). (d.counter + from_bool (is_written s x)) % 65536) win ∙ ap (λ (b : Bool). (d.counter + from_bool b) % 65536) (or_left _ _ (any_below_from (length w.bytes) (λ j. may_write_byte s.managers s.sii.busy (touches w) (w.from + j)) k l m)))
+    ∙ (ap (λ (x : Window). (d.counter + from_bool (is_written s x)) % 65536) win ∙ ap (λ (b : Bool). (d.counter + from_bool b) % 65536) (or_left _ _ (any_below_from (length w.bytes) (λ j. if is_missing s.kind.hardware (w.from + j) then false else may_write_byte s.managers s.sii.busy (touches w) (w.from + j)) k l (if_false _ _ _ here ∙ m))))
 
 -- ---- the datagrams of a start-up, as they were sent
 
 -- a stored register is written
-pub register-goes : (s : SlaveState) (i ado : ℕ) (bytes : List ℕ) (number k : ℕ) → station_of s ≡ station i → i < 64 → k < length bytes → ado + k < ram_start → takes_writes s.sii.busy (ado + k) ≡ true
+pub register-goes : (s : SlaveState) (i ado : ℕ) (bytes : List ℕ) (number k : ℕ) → station_of s ≡ station i → i < 64 → k < length bytes → ado + k < ram_start → is_missing s.kind.hardware (ado + k) ≡ false → takes_writes s.sii.busy (ado + k) ≡ true
     → (datagram_met s (sent Fpwr (station i) ado bytes number)).counter ≡ 1
-register-goes s i ado bytes number k e l b r h =
+register-goes s i ado bytes number k e l b r here h =
     write-counts s (sent Fpwr (station i) ado bytes number) (record { from = ado; bytes = bytes }) k
     (own-writes s (sent Fpwr (station i) ado bytes number) refl (let a : (station i % 65536 + 65536 * ado) % 65536 ≡ station_of s = omega (arith, e, l) in a))
-    (window-sent Fpwr (station i) ado bytes number) b (register-writes s (record { from = ado; bytes = bytes }) k r h)
+    (window-sent Fpwr (station i) ado bytes number) b here (register-writes s (record { from = ado; bytes = bytes }) k r h)
 
 pub register-shows : (s : SlaveState) (i ado : ℕ) (bytes : List ℕ) (number k : ℕ) → station_of s ≡ station i → i < 64 → k < length bytes → ado + k < ram_start
     → (datagram_met s (sent Fprd (station i) ado bytes number)).counter ≡ 1

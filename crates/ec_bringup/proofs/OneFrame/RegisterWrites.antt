@@ -1,6 +1,7 @@
 -- What a slave becomes by a datagram that writes registers.
-use Rattle.ec_bringup.proofs.Words.{ℕ, ◌≡◌, Bool, true, false, refl, sym, ◌∙◌, ap, arith, if◌then◌else◌, length, ◌+◌, ◌*◌, ◌/◌, ◌%◌, ◌<◌, ◌≤◌, ◌⊎◌, Option, None, subst, inl, inr, List, [], ◌∷◌, slice_index, SlaveKind, SyncManager, empty_manager, State, Al, requesting, SlaveState, manager_at, Meeting, station_of, power_on, Window, touches, is_configured, settings_written, physical_after, Wrote, set_by, OnlyWrites, IsOfKind, HoldsZeros, IsConfigured, Rises, IsSilent, Talks, IsUpAt, IsTop, Stands, eq-eqb, if_true, if_false, within_below, within_above, Command, Fpwr, Datagram, IsDatagram, adp_of, ado_of, Init, Op, state_number, Sii, written, role_of, adp_after, is_reading, is_writing, window_of, meets, slave_met, datagram_met, other_station_passes, control_word, Action, AskState, station, sent, Rise, Stays, Climbs, Config, Stage, Up, Talk, config_after, climbing, CanAct, CanClimb, writes_meet, goes_on, Untouched, ReadsOn, Arrives, MayRepeat, wrote, unconfigured, Fprd, Fprw}
+use Rattle.ec_bringup.proofs.Words.{ℕ, ◌≡◌, Bool, true, false, refl, sym, ◌∙◌, ap, arith, if◌then◌else◌, length, ◌+◌, ◌*◌, ◌/◌, ◌%◌, ◌<◌, ◌≤◌, ◌⊎◌, Option, None, subst, inl, inr, List, [], ◌∷◌, slice_index, SlaveKind, SyncManager, empty_manager, State, Al, requesting, SlaveState, manager_at, Meeting, station_of, power_on, Window, touches, is_configured, settings_written, physical_after, Wrote, set_by, OnlyWrites, IsOfKind, HoldsZeros, IsConfigured, Rises, IsSilent, Talks, IsUpAt, IsTop, Stands, eq-eqb, if_true, if_false, within_below, within_above, Command, Fpwr, Datagram, IsDatagram, adp_of, ado_of, Init, Op, state_number, Sii, written, role_of, adp_after, is_reading, is_writing, window_of, meets, slave_met, datagram_met, other_station_passes, control_word, Action, AskState, station, sent, Rise, Stays, Climbs, Config, Stage, Up, Talk, config_after, climbing, CanAct, CanClimb, writes_meet, goes_on, Untouched, ReadsOn, Arrives, MayRepeat, wrote, unconfigured, Fprd, Fprw, Falls, Hardware, is_missing, shown_fmmu, fmmu_bytes, fmmu_at}
 use Rattle.ec_bringup.proofs.OneSlave.Alike.{claims-alike, kind-kept}
+use Rattle.ec_bringup.proofs.OneSlave.Lacking.{keeps-below}
 use Rattle.ec_bringup.proofs.OneFrame.OtherSlaves.{IsOne, ForAskState, station-zero, Owes, as_one, mine-told}
 
 abbrev locked_of : SyncManager → Bool
@@ -9,14 +10,15 @@ locked_of m = m.locked
 abbrev state_of : Al → State
 state_of a = a.state
 
-pub set-locked : (w : Window) (n : ℕ) (m : SyncManager) → (set_by w n m).locked ≡ m.locked
-set-locked w n m = elim (is_configured w n) as (λ b. locked_of (if b then empty_manager (settings_written w n m) m.locked else m) ≡ m.locked) [ true ↦ refl | false ↦ refl ]
+pub set-locked : (o : Option Hardware) (w : Window) (n : ℕ) (m : SyncManager) → (set_by o w n m).locked ≡ m.locked
+set-locked o w n m = elim (is_configured o w n) as (λ b. locked_of (if b then empty_manager (settings_written o w n m) m.locked else m) ≡ m.locked) [ true ↦ refl | false ↦ refl ]
 
 -- a slave that was written is one
 pub slave-wrote : (kind : SlaveKind) (w : Window) (s t : SlaveState) → Wrote w s t → IsOfKind kind s → IsOfKind kind t
 slave-wrote kind w s t a h = kind-kept kind s t a.kind a.room a.count a.outs a.ins
     (λ e n l. ap (λ (m : SyncManager). m.locked) (a.managers n (let f = h.four in omega arith))
-    ∙ (set-locked w n (manager_at s.managers n) ∙ h.unlocked_in_init (sym (state_by (touches w 0x0120)) ∙ (ap (λ (x : Al). x.state) (sym a.al) ∙ e)) n l)) h
+    ∙ (set-locked s.kind.hardware w n (manager_at s.managers n) ∙ h.unlocked_in_init (sym (state_by (touches w 0x0120)) ∙ (ap (λ (x : Al). x.state) (sym a.al) ∙ e)) n l))
+    (λ b e. a.missing b (ap (λ (x : SlaveKind). is_missing x.hardware b) h.kind_is ∙ e)) h
   where
     state_by : (b : Bool) → state_of (if b then requesting s.al else s.al) ≡ s.al.state
     state_by true = refl
@@ -92,8 +94,8 @@ asking state = record { from = 0x0120; bytes = state_number state ∷ 0 ∷ [] }
 ask-leaves : (state : State) (s t : SlaveState) (a : ℕ) → Wrote (asking state) s t → a < length s.memory → (a < 0x0120) ⊎ (0x0122 ≤ a) → slice_index t.memory a ≡ slice_index s.memory a
 ask-leaves state s t a h l o = h.untouched a l (elim o [ inl b ↦ within_below 0x0120 2 a b | inr b ↦ within_above 0x0120 2 a b ])
 
-ask-manager : (state : State) (s t : SlaveState) (n : ℕ) → Wrote (asking state) s t → length s.managers ≡ 4 → n < 4 → manager_at t.managers n ≡ manager_at s.managers n
-ask-manager state s t n h e l = h.managers n (omega arith) ∙ if_false _ _ _ (unconfigured (asking state) n (inl (omega arith)))
+pub ask-manager : (state : State) (s t : SlaveState) (n : ℕ) → Wrote (asking state) s t → length s.managers ≡ 4 → n < 4 → manager_at t.managers n ≡ manager_at s.managers n
+ask-manager state s t n h e l = h.managers n (omega arith) ∙ if_false _ _ _ (unconfigured s.kind.hardware (asking state) n (inl (omega arith)))
 
 ask-busy : (p : Sii) (state : State) → (written p 0x0120 (state_number state ∷ 0 ∷ [])).busy ≡ p.busy
 unfolding written
@@ -109,7 +111,8 @@ ask-configured i c state s t h room four k = record {
   station_is = ap (λ (x : ℕ). x + 256 * slice_index t.memory 0x0011) (ask-leaves state s t 0x0010 h (omega arith) (inl (omega arith)))
       ∙ (ap (λ (x : ℕ). slice_index s.memory 0x0010 + 256 * x) (ask-leaves state s t 0x0011 h (omega arith) (inl (omega arith))) ∙ k.station_is);
   settings = λ n l. ap (λ (m : SyncManager). m.settings) (ask-manager state s t n h four l) ∙ k.settings n l;
-  fmmus = λ n b l m. ask-leaves state s t (0x0600 + 16 * n + b) h (omega arith) (inr (omega arith)) ∙ k.fmmus n b l m;
+  fmmus = λ n b l m. ask-leaves state s t (0x0600 + 16 * n + b) h (omega arith) (inr (omega arith))
+      ∙ (k.fmmus n b l m ∙ ap (λ (x : SlaveKind). slice_index (fmmu_bytes (shown_fmmu x.hardware (fmmu_at c.fmmus n))) b) (sym h.kind));
   idle = λ e. ap (λ (q : Sii). q.busy) h.sii ∙ (ask-busy s.sii state ∙ k.idle e);
   no_messages = λ n l m. ap (λ (x : SyncManager). x.mail) (ask-manager state s t n h four m) ∙ k.no_messages n l m;
   outputs = subst HoldsZeros (sym (ask-manager state s t 2 h four (omega arith))) k.outputs;
@@ -117,16 +120,17 @@ ask-configured i c state s t h room four k = record {
 
 ask-control : (state : State) (s t : SlaveState) → Wrote (asking state) s t → length s.memory ≡ 0x3000 → control_word t ≡ state_number state
 ask-control state s t h room =
-    ap (λ (x : ℕ). x + 256 * slice_index t.memory 0x0121) (h.taken 0x0120 (omega arith) (omega arith) refl refl refl)
-    ∙ (ap (λ (x : ℕ). state_number state + 256 * x) (h.taken 0x0121 (omega arith) (omega arith) refl refl refl) ∙ zero-more (state_number state))
+    ap (λ (x : ℕ). x + 256 * slice_index t.memory 0x0121) (h.taken 0x0120 (omega arith) (omega arith) refl (keeps-below s.kind.hardware 0x0120 (omega arith) refl) refl)
+    ∙ (ap (λ (x : ℕ). state_number state + 256 * x) (h.taken 0x0121 (omega arith) (omega arith) refl (keeps-below s.kind.hardware 0x0121 (omega arith) refl) refl) ∙ zero-more (state_number state))
   where
     zero-more : (n : ℕ) → n + 256 * 0 ≡ n
     zero-more n = omega arith
 
 ask-rises : (r : Rise) (state : State) (s t : SlaveState) → CanClimb r state → control_word t ≡ state_number state → t.al ≡ requesting s.al → Rises r s → Rises (climbing r state) t
 ask-rises (Climbs from other) state s t can w a h = absurd can
-ask-rises (Stays Init) state s t can w a h = (can, inl (record { state = ap (λ (x : Al). x.state) a ∙ h.state; no_error = ap (λ (x : Al). x.error) a ∙ h.no_error; request = ap (λ (x : Al). x.requested) a; control_is = w }))
-ask-rises _ state s t can w a h = (can, inl (record { state = ap (λ (x : Al). x.state) a ∙ h.state_is; no_error = ap (λ (x : Al). x.error) a ∙ h.no_error; request = ap (λ (x : Al). x.requested) a; control_is = w }))
+ask-rises Falls state s t can w a h = (can, inl (record { state = ap (λ (x : Al). x.state) a ∙ h.state; request = ap (λ (x : Al). x.requested) a; control_is = w }))
+ask-rises (Stays Init) state s t can w a h = (can, inl (record { state = ap (λ (x : Al). x.state) a ∙ h.state; request = ap (λ (x : Al). x.requested) a; control_is = w }))
+ask-rises _ state s t can w a h = (can, inl (record { state = ap (λ (x : Al). x.state) a ∙ h.state_is; request = ap (λ (x : Al). x.requested) a; control_is = w }))
 
 ask-silent : (c : Config) (r : Rise) (state : State) (s t : SlaveState) → Wrote (asking state) s t → length s.managers ≡ 4 → IsSilent c s → IsSilent (record c { rise = r }) t
 ask-silent c r state s t h four k = record {

@@ -112,9 +112,9 @@ device-of kind s k h = record {
 }
 
 pub again : AgainLaw
-again ps plans w v new first r =
-    let planned : AreStartable ps = record { each = plans.planned } in
-    let g0 : IsGood ps w = new-good ps planned w new in
+again ps fs plans fed w v new first r =
+    let planned : AreStartable ps = record { each = plans.planned; alike = plans.alike } in
+    let g0 : IsGood ps w = new-good ps fs planned fed w new in
     let g : IsGood ps v = runs-good ps planned w v r g0 in
     let sl = g.starts.slaves in
     record {

@@ -1,5 +1,5 @@
 -- Slaves that differ in nothing that a start-up knows of.
-use Rattle.ec_bringup.proofs.Words.{ℕ, ◌+◌, ◌*◌, ◌<◌, ◌≡◌, Bool, false, Option, Some, None, refl, sym, ◌∙◌, ap, subst, inl, inr, arith, List, length, slice_index, SlaveKind, SyncManagerSettings, emptied_buffer, SyncManager, buffer_length, State, Init, Al, SlaveState, manager_at, station_of, Assignment, all_assigned, Rise, Stays, Climbs, Claim, Talk, Config, Stage, Before, Called, Down, Up, answered, IsOfKind, unviewed, HoldsZeros, IsConfigured, IsAssigned, Claims, IsSilent, Talks, IsInInit, IsIn, StaysIn, Rises, IsUpAt, AreClear, IsDownAt, Reached, IsGone, HadFault, Stands, IsFaultedAt, power_on, set, length-set, cases_eq, get_or-set_same, get_or-set_other, no_manager, IsUp}
+use Rattle.ec_bringup.proofs.Words.{ℕ, ◌+◌, ◌*◌, ◌<◌, ◌≡◌, Bool, false, Option, Some, None, refl, sym, ◌∙◌, ap, subst, inl, inr, arith, List, length, slice_index, SlaveKind, SyncManagerSettings, emptied_buffer, SyncManager, buffer_length, State, Init, Al, SlaveState, manager_at, station_of, Assignment, all_assigned, Rise, Falls, Stays, Climbs, Claim, Talk, Config, Stage, Before, Called, Down, Lowered, Up, answered, HasFallen, IsLoweredAt, is_missing, has_firmware, shown_fmmu, fmmu_bytes, fmmu_at, both_ways, true, Hardware, nat_le, nat_lt, ltb-true, and_parts, IsOfKind, unviewed, HoldsZeros, IsConfigured, IsAssigned, Claims, IsSilent, Talks, IsInInit, IsIn, StaysIn, Rises, IsUpAt, AreClear, IsDownAt, Reached, IsGone, HadFault, Stands, IsFaultedAt, power_on, set, length-set, cases_eq, get_or-set_same, get_or-set_other, no_manager, IsUp}
 
 -- the control word in a memory
 abbrev pub word_of : List ℕ → ℕ
@@ -23,6 +23,13 @@ pub fronts-refl : (ms : List SyncManager) → SameFronts ms ms
 fronts-refl ms = record { four = refl; each = λ n. front-refl (manager_at ms n); outputs = refl }
 
 -- one is set to another that is the same from the front
+pub fronts-trans : (ms ns ls : List SyncManager) → SameFronts ms ns → SameFronts ns ls → SameFronts ms ls
+fronts-trans ms ns ls a b = record {
+  four = b.four ∙ a.four;
+  each = λ n. record { settings = (b.each n).settings ∙ (a.each n).settings; locked = (b.each n).locked ∙ (a.each n).locked; mail = (b.each n).mail ∙ (a.each n).mail };
+  outputs = b.outputs ∙ a.outputs;
+}
+
 pub set-front : (ms : List SyncManager) (n : ℕ) (m : SyncManager) → n < length ms → SameFront (manager_at ms n) m → (n ≡ 2 → unviewed m.buffer ≡ unviewed (manager_at ms n).buffer) → SameFronts ms (set ms n m)
 set-front ms n m l front same = record {
   four = length-set ms n m;
@@ -57,8 +64,9 @@ word-alike s t a = ap (λ (x : ℕ). x + 256 * slice_index t.memory 0x0121) (a.m
 
 -- a slave of a type stays one where its type, its sizes and its assignments stay, and where INIT unlocks its managers
 pub kind-kept : (kind : SlaveKind) (s t : SlaveState) → t.kind ≡ s.kind → length t.memory ≡ length s.memory → length t.managers ≡ length s.managers → t.outs ≡ s.outs → t.ins ≡ s.ins
-    → (t.al.state ≡ Init → (n : ℕ) → n < 4 → (manager_at t.managers n).locked ≡ false) → IsOfKind kind s → IsOfKind kind t
-kind-kept kind s t same room count outs ins unlocked h = record {
+    → (t.al.state ≡ Init → (n : ℕ) → n < 4 → (manager_at t.managers n).locked ≡ false)
+    → ((a : ℕ) → is_missing kind.hardware a ≡ true → slice_index t.memory a ≡ slice_index s.memory a) → IsOfKind kind s → IsOfKind kind t
+kind-kept kind s t same room count outs ins unlocked missing h = record {
   kind_is = same ∙ h.kind_is;
   room = room ∙ h.room;
   four = count ∙ h.four;
@@ -69,10 +77,17 @@ kind-kept kind s t same room count outs ins unlocked h = record {
     ins = ins ∙ (f.ins ∙ ap (λ (k : SlaveKind). all_assigned k.inputs) (sym same));
   };
   unlocked_in_init = unlocked;
+  missing = λ a e. missing a e ∙ h.missing a e;
 }
 
+-- the registers of FMMUs that it lacks
+pub missing-low : (o : Option Hardware) (a : ℕ) → is_missing o a ≡ true → a < 0x0800
+missing-low None a e = absurd (both_ways false refl e)
+missing-low (Some h) a e = let b = ltb-true a 0x0640 ((and_parts (nat_le (0x0600 + 16 * h.fmmus) a) (nat_lt a 0x0640) e).1) in omega (arith, b)
+
 pub slave-alike : (kind : SlaveKind) (s t : SlaveState) → Alike s t → (t.al.state ≡ Init → s.al.state ≡ Init) → IsOfKind kind s → IsOfKind kind t
-slave-alike kind s t a init h = kind-kept kind s t a.kind a.room a.managers.four a.outs a.ins (λ e n l. (a.managers.each n).locked ∙ h.unlocked_in_init (init e) n l) h
+slave-alike kind s t a init h = kind-kept kind s t a.kind a.room a.managers.four a.outs a.ins (λ e n l. (a.managers.each n).locked ∙ h.unlocked_in_init (init e) n l)
+    (λ b e. a.memory b (missing-low kind.hardware b e)) h
 
 zeros-alike : (s t : SlaveState) → Alike s t → HoldsZeros (manager_at s.managers 2) → HoldsZeros (manager_at t.managers 2)
 zeros-alike s t a h = a.managers.outputs ∙ (h ∙ ap (λ (m : SyncManagerSettings). emptied_buffer (buffer_length m)) (sym (a.managers.each 2).settings))
@@ -81,7 +96,8 @@ pub configured-alike : (i : ℕ) (c : Config) (s t : SlaveState) → Alike s t �
 configured-alike i c s t a h = record {
   station_is = station-alike s t a ∙ h.station_is;
   settings = λ n l. (a.managers.each n).settings ∙ h.settings n l;
-  fmmus = λ n k l b. a.memory (0x0600 + 16 * n + k) (omega arith) ∙ h.fmmus n k l b;
+  fmmus = λ n k l b. a.memory (0x0600 + 16 * n + k) (omega arith)
+      ∙ (h.fmmus n k l b ∙ ap (λ (x : SlaveKind). slice_index (fmmu_bytes (shown_fmmu x.hardware (fmmu_at c.fmmus n))) k) (sym a.kind));
   idle = λ e. a.idle (h.idle e);
   no_messages = λ n l b. (a.managers.each n).mail ∙ h.no_messages n l b;
   outputs = zeros-alike s t a h.outputs;
@@ -144,10 +160,24 @@ down-rest f m s t a n h = record {
   managers = λ e. clear-alike s t a (h.managers e);
 }
 
-pub init-alike : (s t : SlaveState) → word_of t.memory ≡ word_of s.memory → t.al ≡ s.al → IsInInit s → IsInInit t
-init-alike s t a e h = record {
+pub lowered-rest : (f m : Bool) (s t : SlaveState) → Alike s t → HasFallen t → IsLoweredAt f m s → IsLoweredAt f m t
+lowered-rest f m s t a n h = record {
+  low = n;
+  fmmus = λ e k l. a.memory (0x0600 + k) (omega arith) ∙ h.fmmus e k l;
+  managers = λ e. clear-alike s t a (h.managers e);
+}
+
+pub fallen-alike : (s t : SlaveState) → t.kind ≡ s.kind → word_of t.memory ≡ word_of s.memory → t.al ≡ s.al → HasFallen s → HasFallen t
+fallen-alike s t same a e h = record {
   state = ap (λ (x : Al). x.state) e ∙ h.state;
-  no_error = ap (λ (x : Al). x.error) e ∙ h.no_error;
+  no_error = λ f q. ap (λ (x : Al). x.error) e ∙ h.no_error (ap (λ (x : SlaveKind). has_firmware x.hardware) (sym same) ∙ f) (ap (λ (x : Al). x.requested) (sym e) ∙ q);
+  asked = λ q. a ∙ h.asked (ap (λ (x : Al). x.requested) (sym e) ∙ q);
+}
+
+pub init-alike : (s t : SlaveState) → t.kind ≡ s.kind → word_of t.memory ≡ word_of s.memory → t.al ≡ s.al → IsInInit s → IsInInit t
+init-alike s t same a e h = record {
+  state = ap (λ (x : Al). x.state) e ∙ h.state;
+  no_error = λ f. ap (λ (x : Al). x.error) e ∙ h.no_error (ap (λ (x : SlaveKind). has_firmware x.hardware) (sym same) ∙ f);
   asked = λ q. a ∙ h.asked (ap (λ (x : Al). x.requested) (sym e) ∙ q);
 }
 
@@ -158,23 +188,23 @@ in-alike state s t e h = record {
   no_request = ap (λ (x : Al). x.requested) e ∙ h.no_request;
 }
 
-stays-alike : (state : State) (s t : SlaveState) → word_of t.memory ≡ word_of s.memory → t.al ≡ s.al → StaysIn state s → StaysIn state t
-stays-alike Init s t a e h = init-alike s t a e h
-stays-alike state s t a e h = in-alike state s t e h
+stays-alike : (state : State) (s t : SlaveState) → t.kind ≡ s.kind → word_of t.memory ≡ word_of s.memory → t.al ≡ s.al → StaysIn state s → StaysIn state t
+stays-alike Init s t k a e h = init-alike s t k a e h
+stays-alike state s t k a e h = in-alike state s t e h
 
-pub rises-alike : (r : Rise) (s t : SlaveState) → word_of t.memory ≡ word_of s.memory → t.al ≡ s.al → Rises r s → Rises r t
-rises-alike (Stays state) s t a e h = stays-alike state s t a e h
-rises-alike (Climbs from to) s t a e (up, inl h) = (
+pub rises-alike : (r : Rise) (s t : SlaveState) → t.kind ≡ s.kind → word_of t.memory ≡ word_of s.memory → t.al ≡ s.al → Rises r s → Rises r t
+rises-alike Falls s t k a e h = fallen-alike s t k a e h
+rises-alike (Stays state) s t k a e h = stays-alike state s t k a e h
+rises-alike (Climbs from to) s t k a e (up, inl h) = (
   up,
   inl (record {
     state = ap (λ (x : Al). x.state) e ∙ h.state;
-    no_error = ap (λ (x : Al). x.error) e ∙ h.no_error;
     request = ap (λ (x : Al). x.requested) e ∙ h.request;
     control_is = a ∙ h.control_is;
   }),
 )
-rises-alike (Climbs from to) s t a e (up, inr (inl h)) = (up, inr (inl (in-alike to s t e h)))
-rises-alike (Climbs from to) s t a e (up, inr (inr h)) = (
+rises-alike (Climbs from to) s t k a e (up, inr (inl h)) = (up, inr (inl (in-alike to s t e h)))
+rises-alike (Climbs from to) s t k a e (up, inr (inr h)) = (
   up,
   inr (inr (record {
     state = ap (λ (x : Al). x.state) e ∙ h.state;
@@ -186,9 +216,10 @@ rises-alike (Climbs from to) s t a e (up, inr (inr h)) = (
 pub reached-alike : (i : ℕ) (st : Stage) (s t : SlaveState) → Alike s t → t.al ≡ s.al → Reached i st s → Reached i st t
 reached-alike i Before s t a e h = tt
 reached-alike i Called s t a e (inl h) = inl (ap (λ (x : Al). x.requested) e ∙ h.0, word-alike s t a ∙ h.1)
-reached-alike i Called s t a e (inr h) = inr (init-alike s t (word-alike s t a) e h)
-reached-alike i (Down f m) s t a e h = down-rest f m s t a (init-alike s t (word-alike s t a) e h.init) h
-reached-alike i (Up c) s t a e h = up-rest i c s t a (rises-alike c.rise s t (word-alike s t a) e h.rises) h
+reached-alike i Called s t a e (inr h) = inr (fallen-alike s t a.kind (word-alike s t a) e h)
+reached-alike i (Down f m) s t a e h = down-rest f m s t a (init-alike s t a.kind (word-alike s t a) e h.init) h
+reached-alike i (Lowered f m) s t a e h = lowered-rest f m s t a (fallen-alike s t a.kind (word-alike s t a) e h.low) h
+reached-alike i (Up c) s t a e h = up-rest i c s t a (rises-alike c.rise s t a.kind (word-alike s t a) e h.rises) h
 
 pub faulted-alike : (i : ℕ) (st : Stage) (s t : SlaveState) → Alike s t → t.al ≡ s.al → HadFault i st s → HadFault i st t
 faulted-alike i (Up c) s t a e h = let k = h.faulted in record {

@@ -1,5 +1,5 @@
 -- A fault of a slave that stands at a stage, and what its application reads and writes.
-use Rattle.ec_bringup.proofs.Words.{ℕ, ◌<◌, ◌≡◌, ◌≢◌, ◌⊎◌, Bool, true, false, Option, Some, None, refl, sym, ◌∙◌, ap, subst, inl, inr, arith, if◌then◌else◌, List, length, set, unwrap_or, option_map, nat_lt, ◌==◌, length-set, get_or-set_same, get_or-set_other, cases_Bool, cases_eq, both_ways, if_true, if_false, SlaveKind, Buffer, Got, view_next, app_written, app_read, SyncManager, no_manager, may_app_put, may_app_get, app_put, app_got, Init, PreOp, SafeOp, Op, Al, SlaveState, manager_at, is_running, with_manager, input_put, output_got, output_taken, faults, switched_on, faulted, locked_empty, Rise, Stays, Climbs, Config, Stage, Before, Called, Down, Up, Talk, unviewed, HoldsZeros, IsOfKind, Rises, IsSilent, Talks, IsUpAt, Reached, IsGone, IsFaulted, IsTop, HadFault, Stands}
+use Rattle.ec_bringup.proofs.Words.{ℕ, ◌<◌, ◌≡◌, ◌≢◌, ◌⊎◌, Bool, true, false, Option, Some, None, refl, sym, ◌∙◌, ap, subst, inl, inr, arith, if◌then◌else◌, List, length, set, unwrap_or, option_map, nat_lt, ◌==◌, length-set, get_or-set_same, get_or-set_other, cases_Bool, cases_eq, both_ways, if_true, if_false, SlaveKind, Buffer, Got, view_next, app_written, app_read, SyncManager, no_manager, may_app_put, may_app_get, app_put, app_got, Init, PreOp, SafeOp, Op, Al, SlaveState, manager_at, is_running, with_manager, input_put, output_got, output_taken, faults, switched_on, faulted, locked_empty, Rise, Falls, Stays, Climbs, Config, Stage, Before, Called, Down, Lowered, Up, Talk, unviewed, HoldsZeros, IsOfKind, Rises, IsSilent, Talks, IsUpAt, Reached, IsGone, IsFaulted, IsTop, HadFault, Stands}
 use Rattle.ec_al.specs.Al as al
 use Rattle.ec_bringup.proofs.OneSlave.Alike.{Alike, stands-alike, gone-on, had-fault, set-front}
 
@@ -39,6 +39,7 @@ fault-slave kind s e h = record {
   ins = h.ins;
   fixed = λ q. let g = h.fixed q in record { outs = g.outs; ins = g.ins };
   unlocked_in_init = λ q n l. absurd (cc (ap (λ (x : Al). x.state) (sym (al-is s.al e)) ∙ q));
+  missing = h.missing;
 }
 
 fault-at : (i : ℕ) (c : Config) (s : SlaveState) → s.al.state ≡ Op → 3 < length s.managers → s.al.requested ≡ false → IsTop c.rise → IsUpAt i c s → IsFaulted i c (with_fault s)
@@ -71,6 +72,7 @@ fault-at i c s e l quiet top u =
     }
 
 fault-up : (i : ℕ) (c : Config) (r : Rise) (s : SlaveState) → c.rise ≡ r → s.al.state ≡ Op → 3 < length s.managers → Rises r s → IsUpAt i c s → IsFaulted i c (with_fault s)
+fault-up i c Falls s q e l h u = absurd (cc (sym h.state ∙ e))
 fault-up i c (Stays Init) s q e l h u = absurd (cc (sym h.state ∙ e))
 fault-up i c (Stays PreOp) s q e l h u = absurd (cc (sym h.state_is ∙ e))
 fault-up i c (Stays SafeOp) s q e l h u = absurd (cc (sym h.state_is ∙ e))
@@ -92,6 +94,7 @@ fault-reached i Before s e l h = inl tt
 fault-reached i Called s e l (inl h) = inl (inl (ap (λ (x : Al). x.requested) (al-is s.al e) ∙ h.0, h.1))
 fault-reached i Called s e l (inr h) = absurd (cc (sym h.state ∙ e))
 fault-reached i (Down f m) s e l h = absurd (cc (sym h.init.state ∙ e))
+fault-reached i (Lowered f m) s e l h = absurd (cc (sym h.low.state ∙ e))
 fault-reached i (Up c) s e l h = inr (refl, inr (fault-up i c c.rise s refl e l h.rises h))
 
 gone-state : (st : Stage) (s : SlaveState) → IsGone st s → s.al.state ≡ Init

@@ -1,5 +1,5 @@
 -- The FMMUs of a slave that holds a plan's registers are the plan's.
-use Rattle.ec_bringup.proofs.Words.{ℕ, ◌+◌, ◌*◌, ◌/◌, ◌%◌, ◌<◌, ◌≡◌, ◌==◌, Bool, true, false, refl, ◌∙◌, ap, arith, [], ◌∷◌, slice_index, bit_at, from_bool, FmmuSettings, fmmu_of, fmmu_bytes, SlaveState, fmmus, fmmu_at, Config, IsConfigured, IsFmmu}
+use Rattle.ec_bringup.proofs.Words.{ℕ, ◌+◌, ◌*◌, ◌/◌, ◌%◌, ◌<◌, ◌≡◌, ◌==◌, Bool, true, false, refl, ◌∙◌, ap, arith, [], ◌∷◌, slice_index, bit_at, from_bool, FmmuSettings, fmmu_of, fmmu_bytes, SlaveState, fmmus, fmmu_at, Config, IsConfigured, IsFmmu, shown_fmmu, settings_go_back}
 
 -- the thirteen bytes that count
 same-fmmu : (b c : ℕ → ℕ) → ((k : ℕ) → k < 16 → b k ≡ c k) → fmmu_of b ≡ fmmu_of c
@@ -51,7 +51,16 @@ fmmus-held i c s good h =
     ∙ ap (λ (f : FmmuSettings). fmmu_at c.fmmus 0 ∷ fmmu_at c.fmmus 1 ∷ fmmu_at c.fmmus 2 ∷ f ∷ []) (one 3 (omega arith))))
   where
     at : ℕ → FmmuSettings
-    at n = fmmu_of (λ k. slice_index s.memory (0x0600 + 16 * n + k))
+    at n = shown_fmmu s.kind.hardware (fmmu_of (λ k. slice_index s.memory (0x0600 + 16 * n + k)))
+
+    -- as the registers have it
+    shown : ℕ → FmmuSettings
+    shown n = shown_fmmu s.kind.hardware (fmmu_at c.fmmus n)
+
+    fits : (n : ℕ) → n < 4 → IsFmmu (shown n)
+    fits n l = let g = good n l in record { start = g.start; stop = g.stop; physical = g.physical }
 
     one : (n : ℕ) → n < 4 → at n ≡ fmmu_at c.fmmus n
-    one n l = same-fmmu (λ k. slice_index s.memory (0x0600 + 16 * n + k)) (slice_index (fmmu_bytes (fmmu_at c.fmmus n))) (λ k b. h.fmmus n k l b) ∙ read-back (fmmu_at c.fmmus n) (good n l)
+    one n l =
+        ap (shown_fmmu s.kind.hardware) (same-fmmu (λ k. slice_index s.memory (0x0600 + 16 * n + k)) (slice_index (fmmu_bytes (shown n))) (λ k b. h.fmmus n k l b) ∙ read-back (shown n) (fits n l))
+        ∙ settings_go_back.fmmu s.kind.hardware (fmmu_at c.fmmus n)

@@ -1,7 +1,8 @@
 -- A firmware step of a slave that stands at a stage: its mailbox.
-use Rattle.ec_bringup.proofs.Words.{ℕ, ◌+◌, ◌-◌, ◌*◌, ◌<◌, ◌≤◌, ◌≡◌, ◌&&◌, ◌++◌, not, Bool, true, Option, Some, None, refl, sym, ◌∙◌, ap, subst, inl, inr, arith, List, length, slice_index, is_some, length-append, option_and_then, ◌%◌, ◌^◌, false, is_none, cases_Bool, both_ways, and_parts, le-ltb, eq-eqb, and_from, lt-ltb, length-replicate, zeros, if_true, if_false, within_true, SlaveKind, is_mailbox, is_master_written, is_set, is_master_read, span, SyncManager, is_enabled, mailbox_message_in, padded, may_write, Al, SlaveState, manager_at, station_of, Message, ValueSize, One, Two, Three, Four, DownloadRequest, DownloadResponse, UploadResponse, message_read, message_length, command_of, command_number, message_bytes, message_in, size_number, service_of, service_number, KeepsBesideMessages, IsAnswered, three_parts, messages_keep, messages_rest, requests_answered, requests_decided, finished, switched_on, Answer, answer_of, Unexpected, reads_back, reads-as-message, command-read, service-read, index-read, subindex-read, value-read, replies_fit, replies_alone, message_or_none, dictionary_of, is_preop, has_mailbox, takes_reply, is_served, request_for, request_in, reply_counter, answer_to, bytes_to, message_served, served, is_init, read_finished, request_decided, Transfer, Download, Upload, SdoRequest, message_verdict, reply_verdict, Next, filled, request_bytes, request_command, request_message, request_value, station, datagram_of, Config, Stage, Before, Called, Down, Up, Talk, Claim, HasAll, HoldsZeros, IsInInit, IsOfKind, IsConfigured, IsSent, Claims, Talks, IsUpAt, IsDownAt, Reached, HadFault, Stands, IsIn, mod-eq_of_lt, SyncManagerSettings, Mailbox, Fpwr, State, PreOp, governor, covers, in_first_buffer, writes_under, touches, datagram_met, Service, Response, Sdo, reply_in, reply_by, response_in, Dictionary, reply_bytes, SendRequest, AreMailboxes, ram_governed}
+use Rattle.ec_bringup.proofs.Words.{ℕ, ◌+◌, ◌-◌, ◌*◌, ◌<◌, ◌≤◌, ◌≡◌, ◌&&◌, ◌++◌, not, Bool, true, Option, Some, None, refl, sym, ◌∙◌, ap, subst, inl, inr, arith, List, length, slice_index, is_some, length-append, option_and_then, ◌%◌, ◌^◌, false, is_none, cases_Bool, both_ways, and_parts, le-ltb, eq-eqb, and_from, lt-ltb, length-replicate, zeros, if_true, if_false, within_true, SlaveKind, is_mailbox, is_master_written, is_set, is_master_read, span, SyncManager, is_enabled, mailbox_message_in, padded, may_write, Al, SlaveState, manager_at, station_of, Message, ValueSize, One, Two, Three, Four, DownloadRequest, DownloadResponse, UploadResponse, message_read, message_length, command_of, command_number, message_bytes, message_in, size_number, service_of, service_number, KeepsBesideMessages, IsAnswered, three_parts, messages_keep, messages_rest, requests_answered, requests_decided, finished, switched_on, Answer, answer_of, Unexpected, reads_back, reads-as-message, command-read, service-read, index-read, subindex-read, value-read, replies_fit, replies_alone, message_or_none, dictionary_of, is_preop, has_mailbox, takes_reply, is_served, request_for, request_in, reply_counter, answer_to, bytes_to, message_served, served, is_init, read_finished, request_decided, Transfer, Download, Upload, SdoRequest, message_verdict, reply_verdict, Next, filled, request_bytes, request_command, request_message, request_value, station, datagram_of, Config, Stage, Before, Called, Down, Up, Talk, Claim, HasAll, HoldsZeros, IsOfKind, IsConfigured, IsSent, Claims, Talks, IsUpAt, IsDownAt, Reached, HadFault, Stands, IsIn, mod-eq_of_lt, SyncManagerSettings, Mailbox, Fpwr, State, PreOp, governor, covers, in_first_buffer, writes_under, touches, datagram_met, Service, Response, Sdo, reply_in, reply_by, response_in, Dictionary, reply_bytes, SendRequest, AreMailboxes, ram_governed, Lowered, HasFallen, IsLoweredAt, shown_fmmu, fmmu_bytes, fmmu_at}
 use Rattle.ec_bringup.proofs.OneSlave.Alike.{rises-alike, word_of, stands-by, gone-on, had-fault}
 use Rattle.ec_bringup.proofs.OneSlave.AlRequest.{stands-decided, stands-finished}
+use Rattle.ec_bringup.proofs.OneSlave.Lacking.{has-above}
 use Rattle.ec_bringup.proofs.Mailbox.ReplyClaims.{reply-claims}
 use Rattle.ec_bringup.proofs.OneFrame.RegisterWrites.{window-sent, own-writes}
 use Rattle.ec_bringup.proofs.Mailbox.SendRequest.{sending, sending-length, set-lies, four-of}
@@ -51,13 +52,14 @@ replied-up i c k s t talk four u h r = record {
   configured = record {
     station_is = ap (λ (m : List ℕ). slice_index m 0x0010 + 256 * slice_index m 0x0011) r.kept.memory ∙ u.configured.station_is;
     settings = λ n l. r.kept.settings n ∙ u.configured.settings n l;
-    fmmus = λ n b l m. ap (λ (x : List ℕ). slice_index x (0x0600 + 16 * n + b)) r.kept.memory ∙ u.configured.fmmus n b l m;
+    fmmus = λ n b l m. ap (λ (x : List ℕ). slice_index x (0x0600 + 16 * n + b)) r.kept.memory
+        ∙ (u.configured.fmmus n b l m ∙ ap (λ (x : SlaveKind). slice_index (fmmu_bytes (shown_fmmu x.hardware (fmmu_at c.fmmus n))) b) (sym r.kept.kind));
     idle = λ e. ap (λ p. p.busy) r.kept.sii ∙ u.configured.idle e;
     no_messages = λ n a b. ap (λ (m : SyncManager). m.mail) (r.kept.others n a) ∙ u.configured.no_messages n a b;
     outputs = subst HoldsZeros (sym (r.kept.others 2 (omega arith))) u.configured.outputs;
   };
   unlocked = λ n l. r.kept.locked n ∙ u.unlocked n l;
-  rises = rises-alike c.rise s t (ap (λ (m : List ℕ). slice_index m 0x0120 + 256 * slice_index m 0x0121) r.kept.memory) r.kept.al u.rises;
+  rises = rises-alike c.rise s t r.kept.kind (ap (λ (m : List ℕ). slice_index m 0x0120 + 256 * slice_index m 0x0121) r.kept.memory) r.kept.al u.rises;
   talks = subst (λ (o : Option Talk). Talks i c o t) (sym talk) (inr (record {
     mailboxes = h.mailboxes;
     no_message = r.answer.no_message;
@@ -121,11 +123,12 @@ message-slave kind s h =
       ins = k.in_slots ∙ h.ins;
       fixed = λ e. subst HasAll (sym ((messages_rest s).no_mailbox (ap (λ (t : SlaveKind). t.mailbox) h.kind_is ∙ e))) (h.fixed e);
       unlocked_in_init = λ e n l. k.locked n ∙ h.unlocked_in_init (ap (λ (a : Al). a.state) (sym k.al) ∙ e) n l;
+      missing = λ a e. ap (λ (x : List ℕ). slice_index x a) k.memory ∙ h.missing a e;
     }
 
 called-served : (i : ℕ) (s : SlaveState) → Reached i Called s → Reached i Called (message_served s)
 called-served i s (inl h) = let k = messages_keep s in inl (ap (λ (a : Al). a.requested) k.al ∙ h.0, ap word_of k.memory ∙ h.1)
-called-served i s (inr h) = inr (subst IsInInit (sym ((messages_rest s).in_init h.state)) h)
+called-served i s (inr h) = inr (subst HasFallen (sym ((messages_rest s).in_init h.state)) h)
 
 pub up-served : (i : ℕ) (c : Config) (o : Option Talk) (s : SlaveState) → c.talk ≡ o → length s.managers ≡ 4 → Talks i c o s → IsUpAt i c s → IsUpAt i c (message_served s)
 up-served i c None s e four h u = subst (λ (x : SlaveState). IsUpAt i c x) (sym ((messages_rest s).empty h.no_message)) u
@@ -139,6 +142,7 @@ reached-served : (i : ℕ) (st : Stage) (s : SlaveState) → length s.managers �
 reached-served i Before s four h = tt
 reached-served i Called s four h = called-served i s h
 reached-served i (Down f m) s four h = subst (λ (x : SlaveState). IsDownAt f m x) (sym ((messages_rest s).in_init h.init.state)) h
+reached-served i (Lowered f m) s four h = subst (λ (x : SlaveState). IsLoweredAt f m x) (sym ((messages_rest s).in_init h.low.state)) h
 reached-served i (Up c) s four h = up-served i c c.talk s refl four h.talks h
 
 pub stands-messages : (kind : SlaveKind) (i : ℕ) (st : Stage) (trouble : Bool) (s : SlaveState) → Stands kind i st trouble s → Stands kind i st trouble (message_served s)
@@ -182,7 +186,7 @@ request-goes s i counter c b r number e l four h u none =
     = ap (λ (o : Option ℕ). writes_under s.managers (touches (sending b counter r)) (b.receive_start + 0) o) gov ∙ and_from _ _ front (and_from _ _ cov may) in
     write-counts s (datagram_of (SendRequest i counter b r) number) (sending b counter r) 0
     (own-writes s (datagram_of (SendRequest i counter b r) number) refl (let a : (station i % 65536 + 65536 * b.receive_start) % 65536 ≡ station_of s = omega (arith, e, l) in a))
-    (window-sent Fpwr (station i) b.receive_start (filled b.receive_size (request_bytes counter r)) number) (omega (arith, long, some))
+    (window-sent Fpwr (station i) b.receive_start (filled b.receive_size (request_bytes counter r)) number) (omega (arith, long, some)) (has-above s.kind.hardware (b.receive_start + 0) (omega (arith, low, start)))
     ((ram_governed s (b.receive_start + 0) (omega (arith, low, start)) (omega (arith, high, start, wide, len, some))).writes s.sii.busy (touches (sending b counter r)) ∙ under)
 
 -- ---- the reply that is wanted

@@ -1,5 +1,5 @@
 -- A slave that is reset stands where it stood, if it has no station address yet, and else is gone.
-use Rattle.ec_bringup.proofs.Words.{ℕ, zero, suc, ◌+◌, ◌≡◌, ◌⊎◌, Bool, true, refl, sym, ◌∙◌, ap, subst, inl, inr, List, [], ◌∷◌, length, get_or, both_ways, length-map, zeros, Identity, Pdo, SlaveKind, SyncManager, no_manager, Assignment, all_assigned, Al, manager_at, power_on, switched_on, Stage, Before, Called, Down, Up, IsOfKind, HoldsZeros, IsInInit, IsDownAt, Reached, IsGone, HadFault, Stands}
+use Rattle.ec_bringup.proofs.Words.{ℕ, zero, suc, ◌+◌, ◌≡◌, ◌⊎◌, Bool, true, refl, sym, ◌∙◌, ap, subst, inl, inr, List, [], ◌∷◌, length, get_or, both_ways, length-map, zeros, Identity, Pdo, SlaveKind, SyncManager, no_manager, Assignment, all_assigned, Al, manager_at, power_on, switched_on, Stage, Before, Called, Down, Lowered, Up, IsOfKind, HoldsZeros, IsInInit, HasFallen, AreClear, IsDownAt, IsLoweredAt, Reached, IsGone, HadFault, Stands}
 
 pub get_or-zeros : (n k : ℕ) → get_or (zeros n) k 0 ≡ 0
 get_or-zeros zero k = refl
@@ -23,27 +23,42 @@ power_on_is kind identity =
         ins = on.ins ∙ ap (λ (k : SlaveKind). all_assigned k.inputs) (sym on.kind_is);
       };
       unlocked_in_init = λ _ n l. ap (λ (ms : List SyncManager). (manager_at ms n).locked) on.managers ∙ ap (λ (m : SyncManager). m.locked) (empty_at n);
+      missing = λ a e. on.memory a;
     }
 
 power_on_init : (kind : SlaveKind) (identity : Identity) → IsInInit (power_on kind identity)
 power_on_init kind identity =
     let on = switched_on kind identity in record {
       state = ap (λ (a : Al). a.state) on.al;
-      no_error = ap (λ (a : Al). a.error) on.al;
+      no_error = λ f. ap (λ (a : Al). a.error) on.al;
       asked = λ e. absurd (both_ways (power_on kind identity).al.requested (ap (λ (a : Al). a.requested) on.al) e);
     }
 
-power_on_down : (kind : SlaveKind) (identity : Identity) (f m : Bool) → IsDownAt f m (power_on kind identity)
-power_on_down kind identity f m =
-    let on = switched_on kind identity in record {
-      init = power_on_init kind identity;
-      fmmus = λ _ k l. on.memory (0x0600 + k);
-      managers = λ _. record {
-        settings = λ n l. ap (λ (ms : List SyncManager). (manager_at ms n).settings) on.managers ∙ ap (λ (x : SyncManager). x.settings) (empty_at n);
-        no_messages = λ n l. ap (λ (ms : List SyncManager). (manager_at ms n).mail) on.managers ∙ ap (λ (x : SyncManager). x.mail) (empty_at n);
-        outputs = subst (λ (ms : List SyncManager). HoldsZeros (manager_at ms 2)) (sym on.managers) refl;
-      };
+power_on_fallen : (kind : SlaveKind) (identity : Identity) → HasFallen (power_on kind identity)
+power_on_fallen kind identity = let h = power_on_init kind identity in record { state = h.state; no_error = λ f q. h.no_error f; asked = h.asked }
+
+power_on_clear : (kind : SlaveKind) (identity : Identity) → AreClear (power_on kind identity)
+power_on_clear kind identity =
+    let on = switched_on kind identity in
+    record {
+      settings = λ n l. ap (λ (ms : List SyncManager). (manager_at ms n).settings) on.managers ∙ ap (λ (x : SyncManager). x.settings) (empty_at n);
+      no_messages = λ n l. ap (λ (ms : List SyncManager). (manager_at ms n).mail) on.managers ∙ ap (λ (x : SyncManager). x.mail) (empty_at n);
+      outputs = subst (λ (ms : List SyncManager). HoldsZeros (manager_at ms 2)) (sym on.managers) refl;
     }
+
+power_on_down : (kind : SlaveKind) (identity : Identity) (f m : Bool) → IsDownAt f m (power_on kind identity)
+power_on_down kind identity f m = record {
+  init = power_on_init kind identity;
+  fmmus = λ _ k l. (switched_on kind identity).memory (0x0600 + k);
+  managers = λ _. power_on_clear kind identity;
+}
+
+power_on_lowered : (kind : SlaveKind) (identity : Identity) (f m : Bool) → IsLoweredAt f m (power_on kind identity)
+power_on_lowered kind identity f m = record {
+  low = power_on_fallen kind identity;
+  fmmus = λ _ k l. (switched_on kind identity).memory (0x0600 + k);
+  managers = λ _. power_on_clear kind identity;
+}
 
 power_on_same : (kind : SlaveKind) (identity : Identity) → power_on kind identity ≡ power_on (power_on kind identity).kind (power_on kind identity).identity
 power_on_same kind identity =
@@ -53,8 +68,9 @@ power_on_same kind identity =
 pub reset_reached : (kind : SlaveKind) (identity : Identity) (i : ℕ) (st : Stage)
     → Reached i st (power_on kind identity) ⊎ ((true ≡ true) × (IsGone st (power_on kind identity) ⊎ HadFault i st (power_on kind identity)))
 reset_reached kind identity i Before = inl tt
-reset_reached kind identity i Called = inl (inr (power_on_init kind identity))
+reset_reached kind identity i Called = inl (inr (power_on_fallen kind identity))
 reset_reached kind identity i (Down f m) = inl (power_on_down kind identity f m)
+reset_reached kind identity i (Lowered f m) = inl (power_on_lowered kind identity f m)
 reset_reached kind identity i (Up c) = inr (refl, inl (power_on_same kind identity))
 
 -- whatever it was

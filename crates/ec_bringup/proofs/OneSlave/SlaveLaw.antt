@@ -1,5 +1,5 @@
 -- What befalls a slave keeps what is known of it.
-use Rattle.ec_bringup.proofs.Words.{true, refl, sym, subst, ◌∙◌, SlaveKind, power_on, slave_met, Up, Stands, inside_kept, ForOthersLaw, GoneLaw, SlaveLaw, StandingLaw}
+use Rattle.ec_bringup.proofs.Words.{true, refl, sym, subst, ◌∙◌, SlaveKind, power_on, slave_met, Up, Stands, inside_kept, ForOthersLaw, GoneLaw, SlaveLaw, StandingLaw, is_missing, ap}
 use Rattle.ec_bringup.proofs.OneSlave.Fault.{fault-stands, put-stands, got-stands}
 use Rattle.ec_bringup.proofs.OneSlave.MailboxServed.{stands-served}
 use Rattle.ec_bringup.proofs.OneFrame.OtherSlaves.{station-zero, one-passes}
@@ -27,4 +27,5 @@ for-others kind i t ado st trouble s d li lt ne up h good c a = one-passes kind 
 pub slave-law : SlaveLaw
 slave-law kind s d h =
     let k = inside_kept s d in
-    kind-kept kind s (slave_met s d) k.kind k.room k.count k.outs k.ins (λ e n l. k.locked n ∙ h.unlocked_in_init (sym k.state ∙ e) n l) h
+    kind-kept kind s (slave_met s d) k.kind k.room k.count k.outs k.ins (λ e n l. k.locked n ∙ h.unlocked_in_init (sym k.state ∙ e) n l)
+    (λ a e. k.missing a (ap (λ (x : SlaveKind). is_missing x.hardware a) h.kind_is ∙ e)) h

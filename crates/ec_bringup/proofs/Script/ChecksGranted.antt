@@ -1,5 +1,5 @@
 -- The checks of the AL state machine pass at a slave that was set as the plan says.
-use Rattle.ec_bringup.proofs.Words.{ℕ, ◌/◌, ◌%◌, ◌<◌, ◌≡◌, ◌==◌, ◌&&◌, not, true, false, Option, Some, None, refl, sym, ◌∙◌, ap, subst, inl, inr, arith, List, [], ◌∷◌, take, cases_Bool, eq-eqb, eqb-true, and_from, and_parts, bytes_of_bits, if_true, if_false, SyncManagerSettings, Mailbox, no_settings, is_set, is_mailbox, is_master_written, is_master_read, SlaveKind, PreOp, SafeOp, SyncManager, SlaveState, manager_at, bits_assigned, checks, is_manager, mailbox_check, process_check, SlavePlan, settings_at, prepared, asked_all, AreMailboxes, IsStartable, IsAssigned, IsComplete, carries, requests, ◌+◌, Action, AskWord, AwaitWord, AskState, SendRequest, SdoRequest, Stays, Config, answered}
+use Rattle.ec_bringup.proofs.Words.{ℕ, ◌/◌, ◌%◌, ◌<◌, ◌≡◌, ◌==◌, ◌&&◌, not, true, false, Option, Some, None, refl, sym, ◌∙◌, ap, subst, inl, inr, arith, List, [], ◌∷◌, take, cases_Bool, eq-eqb, eqb-true, and_from, and_parts, bytes_of_bits, if_true, if_false, SyncManagerSettings, Mailbox, no_settings, is_set, is_mailbox, is_master_written, is_master_read, SlaveKind, PreOp, SafeOp, SyncManager, SlaveState, manager_at, bits_assigned, checks, is_manager, mailbox_check, process_check, SlavePlan, settings_at, prepared, asked_all, AreMailboxes, IsStartable, IsAssigned, IsComplete, carries, requests, ◌+◌, Action, AwaitCleanInit, AskWord, AwaitWord, AskState, SendRequest, SdoRequest, Stays, Config, answered, end_of, has_outputs, IsOfKind, nat_lt}
 use Rattle.ec_bringup.proofs.Mailbox.Assignments.{assignment-held}
 use Rattle.ec_bringup.proofs.Script.Walks.{Bearing, IsEasy, AllSent, answered-frame, boxed, mapped_to}
 use Rattle.ec_bringup.proofs.AllSlaves.NextAction.{Grants, Bears}
@@ -72,6 +72,7 @@ safeop-granted p h v s k =
 easy-bears : (kind : SlaveKind) (c : Config) (a : Action) → IsEasy a → Bears kind c a
 easy-bears kind c (AskWord t which) h = h
 easy-bears kind c (AwaitWord t which) h = h
+easy-bears kind c (AwaitCleanInit t) h = absurd h
 easy-bears kind c (AskState t to) h = absurd h
 easy-bears kind c (SendRequest t counter b r) h = absurd h
 easy-bears kind c _ h = tt
@@ -86,8 +87,17 @@ answers-sent kind i counter b c (r ∷ rs) rise idle boxed h =
 pub bears-all : (i : ℕ) (p : SlavePlan) → IsStartable p → IsComplete p → Bearing (Bears p.kind) i p
 bears-all i p h v = record {
   easy = easy-bears p.kind;
-  to_preop = preop-granted p h;
+  clean = λ c f. f;
+  to_preop = λ r s k. preop-granted p h s (record { slave = k.slave; settings = k.settings; unlocked = k.unlocked; outs = k.outs; ins = k.ins });
   sends = λ b e. answers-sent p.kind i 0 b (prepared p) (requests p) refl refl e (requests-answered p v);
   to_safeop = safeop-granted p h v;
-  to_op = λ c s k. tt;
+  to_op = λ s k. tt;
 }
+
+-- a slave of a plan without output bits has no outputs, once its assignment is the plan's
+pub no-outputs : (p : SlavePlan) → IsStartable p → IsComplete p → (s : SlaveState) → IsOfKind p.kind s → IsAssigned (end_of p) s → p.share.outs ≡ 0 → has_outputs s ≡ false
+no-outputs p h v s of a none =
+    let held = assignment-held p p.kind.mailbox s refl h of (record { outs = a.outs; ins = a.ins }) in
+    let bits : bits_assigned s.kind.outputs (take s.outs.count s.outs.slots) ≡ 0
+    = ap (λ (t : SlaveKind). bits_assigned t.outputs (take s.outs.count s.outs.slots)) of.kind_is ∙ (ap (bits_assigned p.kind.outputs) held.0 ∙ v.no_out_bits none) in
+    ap (λ (n : ℕ). nat_lt 0 n) bits

@@ -1,5 +1,12 @@
 -- The plan of a table without faults is complete: an undisturbed start-up of it ends Ready.
-use Rattle.ec_bringup.proofs.Words.{◌≡◌, ◌≢◌, ℕ, zero, suc, Bool, ◌%◌, ◌<◌, ◌≤◌, ◌==◌, ◌&&◌, ◌⊎◌, true, false, List, [], ◌∷◌, length, get_or, refl, sym, ap, ◌∙◌, subst, arith, inl, inr, Some, None, Option, eqb, All, Contains, cases_Bool, eq-eqb, ne_eqb, false≢true, bytes_of_bits, SyncManagerSettings, Mailbox, Entry, Pdo, FmmuSettings, no_fmmu, run_settings, no_settings, area_settings, is_set, outputs_control, inputs_control, SlaveKind, IsEntry, IsMailbox, ArePdos, first_output_index, first_input_index, indices_of, SlavePlan, process_manager, fmmus_of, manager_of, AreManagers, IsOfItsType, plan_of, IsUsable, listed, slaves_are_of_their_types, plan_usable, fmmu_at, IsFmmu, IsStartable, startable, link_slave_at as slave_at, pdo_at, bits_assigned, contains, distinct, CompiledPlansLaw, IsNumbered, CanReach, IsOffered, AreOffered, IsAssignable, IsComplete, carries}
+use Rattle.ec_bringup.proofs.Words.{◌≡◌, ◌≢◌, ℕ, zero, suc, Bool, ◌%◌, ◌<◌, ◌≤◌, ◌==◌, ◌&&◌, ◌⊎◌, true, false, List, [], ◌∷◌, length, get_or, refl, sym, ap, ◌∙◌, subst, arith, inl, inr, Some, None, Option, eqb, All, Contains, cases_Bool, eq-eqb, ne_eqb, false≢true, bytes_of_bits, SyncManagerSettings, Mailbox, Entry, Pdo, FmmuSettings, no_fmmu, run_settings, no_settings, area_settings, is_set, SlaveKind, IsEntry, IsMailbox, ArePdos, first_output_index, first_input_index, indices_of, SlavePlan, process_manager, fmmus_of, manager_of, AreManagers, IsOfItsType, plan_of, IsUsable, listed, slaves_are_of_their_types, plan_usable, fmmu_at, IsFmmu, IsStartable, startable, link_slave_at as slave_at, pdo_at, bits_assigned, contains, distinct, CompiledPlansLaw, IsNumbered, CanReach, IsOffered, AreOffered, IsAssignable, IsComplete, carries, cases_eq, if_true, if_false, is_some, is_hardware}
+use Rattle.ec_device.specs.Hardware.{out_manager, in_manager}
+use Rattle.ec_link.specs.Sizes.{HasRoom}
+use Rattle.ec_link.specs.Meaning.{no_slave}
+use Rattle.ec_link.proofs.MappedBits.{room_law}
+use Rattle.ec_link.proofs.OfTypes.{one_format}
+use Rattle.ec_bringup.proofs.OneFrame.FeedLaw.{out-mode, in-mode}
+use Rattle.ec_bringup.proofs.Script.FeedsOfPlans.{parts_can_be_fed, parts_are_predicted}
 use Rattle.ec_table.specs.Sound as table
 use Rattle.ec_bringup.proofs.Mailbox.PdosOffered.{offers-output, offers-input}
 
@@ -57,6 +64,19 @@ carried m start bits c low e s same = elim (cases_Bool (eqb bits 0)) [
       rw (some, set) rest
 ]
 
+-- whole bytes carry the bits that lie in them
+carries-mapped : (m : SyncManagerSettings) (mapped bits start low : ℕ) → HasRoom mapped bits → carries m mapped start low ≡ true → carries m bits start low ≡ true
+carries-mapped m mapped bits start low room h = elim (cases_eq bits 0) [
+  | inl z ↦
+      let none : eqb mapped 0 ≡ true = eq-eqb mapped 0 (room.none z) in
+      if_true (eqb bits 0) (m.activate % 2 == 0) _ (eq-eqb bits 0 z) ∙ (sym (if_true (eqb mapped 0) (m.activate % 2 == 0) _ none) ∙ h)
+  | inr ne ↦
+      let some : eqb mapped 0 ≡ false = ne_eqb mapped 0 (λ z. ne (let r = room.room in omega (arith, r, z))) in
+      let on : (is_set m && ((m.start == start) && ((m.length == bytes_of_bits mapped) && (m.control % 16 == low)))) ≡ true = sym (if_false (eqb mapped 0) (m.activate % 2 == 0) _ some) ∙ h in
+      if_false (eqb bits 0) (m.activate % 2 == 0) _ (ne_eqb bits 0 ne)
+      ∙ subst (λ (n : ℕ). (is_set m && ((m.start == start) && ((m.length == n) && (m.control % 16 == low)))) ≡ true) room.bytes on
+]
+
 -- ---- a slave of a plan
 
 reached : (o : Option Mailbox) → ((m : Mailbox) → o ≡ Some m → IsMailbox m) → ((m : Mailbox) → o ≡ Some m → table.HasMailboxStarts m) → CanReach o
@@ -82,13 +102,21 @@ all-numbered first ps h n k d l j e b = numbered (get_or (get_or ps k d).entries
 complete : (x : SlavePlan) → AreManagers x → IsOfItsType x → IsComplete x
 complete x ms type =
     let limits = type.limits in
+    let o = x.kind.hardware in
+    let out_room : HasRoom x.share.outs (bits_assigned x.kind.outputs x.outputs) = subst (λ (n : ℕ). HasRoom n (bits_assigned x.kind.outputs x.outputs)) (sym type.outs) (room_law o (bits_assigned x.kind.outputs x.outputs)) in
+    let in_room : HasRoom x.share.ins (bits_assigned x.kind.inputs x.inputs) = subst (λ (n : ℕ). HasRoom n (bits_assigned x.kind.inputs x.inputs)) (sym type.ins) (room_law o (bits_assigned x.kind.inputs x.inputs)) in
+    let out_bits : bits_assigned x.kind.outputs x.outputs ≤ 2048 = let r = out_room.room in let f = type.few_outs in omega (arith, r, f) in
+    let in_bits : bits_assigned x.kind.inputs x.inputs ≤ 2048 = let r = in_room.room in let f = type.few_ins in omega (arith, r, f) in
     record {
       identity = record { vendor = let a = type.device.vendor in omega (arith, a); product = let a = type.device.product in omega (arith, a); revision = let a = type.device.revision in omega (arith, a) };
       reach = reached x.kind.mailbox limits.mailbox type.starts;
-      outs = assignable x.kind x.kind.outputs x.outputs (λ i p e. offers-output x.kind i p limits (all-numbered first_output_index x.kind.outputs limits.outputs type.out_names) e) limits.outputs.few type.outputs type.few_outputs (omega (arith, type.outs, type.few_outs));
-      ins = assignable x.kind x.kind.inputs x.inputs (λ i p e. offers-input x.kind i p limits (all-numbered first_input_index x.kind.inputs limits.inputs type.in_names) e) limits.inputs.few type.inputs type.few_inputs (omega (arith, type.ins, type.few_ins));
-      out_carried = subst (λ (n : ℕ). carries (manager_of x 2) n x.kind.out_start 4 ≡ true) type.outs (carried (manager_of x 2) x.kind.out_start x.share.outs outputs_control 4 ms.outputs (ms.in_ram 2 (omega arith)) refl);
-      in_carried = subst (λ (n : ℕ). carries (manager_of x 3) n x.kind.in_start 0 ≡ true) type.ins (carried (manager_of x 3) x.kind.in_start x.share.ins inputs_control 0 ms.inputs (ms.in_ram 3 (omega arith)) refl);
+      outs = assignable x.kind x.kind.outputs x.outputs (λ i p e. offers-output x.kind i p limits (all-numbered first_output_index x.kind.outputs limits.outputs type.out_names) e) limits.outputs.few type.outputs type.few_outputs out_bits;
+      ins = assignable x.kind x.kind.inputs x.inputs (λ i p e. offers-input x.kind i p limits (all-numbered first_input_index x.kind.inputs limits.inputs type.in_names) e) limits.inputs.few type.inputs type.few_inputs in_bits;
+      no_out_bits = λ z. let r = out_room.room in omega (arith, r, z);
+      out_carried = carries-mapped (manager_of x 2) x.share.outs (bits_assigned x.kind.outputs x.outputs) x.kind.out_start 4 out_room
+          (carried (manager_of x 2) x.kind.out_start x.share.outs (out_manager o).control 4 ms.outputs (ms.in_ram 2 (omega arith)) (out-mode x.kind.mailbox o ms.hardware));
+      in_carried = carries-mapped (manager_of x 3) x.share.ins (bits_assigned x.kind.inputs x.inputs) x.kind.in_start 0 in_room
+          (carried (manager_of x 3) x.kind.in_start x.share.ins (in_manager o).control 0 ms.inputs (ms.in_ram 3 (omega arith)) (in-mode x.kind.mailbox o ms.hardware));
     }
 
 -- ---- its FMMUs
@@ -116,8 +144,21 @@ all-plain from out_start in_start outs ins _ = none-plain
 -- ---- of a table without faults
 
 pub are-plans : CompiledPlansLaw
-are-plans t sound free = record { planned = planned; complete = λ s l. complete (slave_at (plan_of t) s) (usable.managers s l) (slaves_are_of_their_types t sound free s l) }
+are-plans t sound free = record {
+  plans = record {
+    planned = planned;
+    complete = λ s l. complete (slave_at (plan_of t) s) (usable.managers s l) (slaves_are_of_their_types t sound free s l);
+    alike = λ s l. one_format t sound free s l ∙ sym (format-of (plan_of t).slaves t.hardware (omega (arith, l)) (λ k b. one_format t sound free k b));
+  };
+  feeds = parts_can_be_fed (plan_of t) usable planned;
+  predicted = parts_are_predicted (plan_of t) usable;
+}
   where
+    -- the format is that of the first slave
+    format-of : (ps : List SlavePlan) (b : Bool) → 0 < length ps → ((k : ℕ) → k < length ps → is_some (get_or ps k no_slave).kind.hardware ≡ b) → is_hardware ps ≡ b
+    format-of [] b l h = absurd (omega (arith, l))
+    format-of (x ∷ ps) b l h = h 0 (omega arith)
+
     usable : IsUsable (plan_of t)
     usable = plan_usable t sound free
 

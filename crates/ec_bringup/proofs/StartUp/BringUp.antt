@@ -1,5 +1,5 @@
 -- Bringing up a start-up: its turns, its end, and that it comes up where nothing disturbs it.
-use Rattle.ec_bringup.proofs.Words.{ℕ, zero, suc, ◌+◌, ◌<◌, ◌≤◌, ◌≡◌, ◌≢◌, ◌==◌, Bool, true, false, refl, sym, ◌∙◌, ap, subst, inl, inr, arith, if◌then◌else◌, List, length, map, nat_lt, both_ways, cases_eq, eq-eqb, ne_eqb, if_true, if_false, Datagram, Payload, IsFrame, with_datagrams, bare_payload, SlaveState, served, passes_ring, HasPassedRing, SlavePlan, Action, Phase, Idle, Sent, Ready, Failed, TooSlow, Lost, datagram_of, frame_of, script, StartState, action_of, asked, asked_by, next_frame, next_frame_by, begun, sending, taken, judged, max_polls, second, is_ended, is_sent, last_number, type_of, IsStartTaken, NextFrame, Send, Waiting, Ended, Verdict, Again, Fails, taken_plan, Rising, frame_at, all_passed, all_met, turned, turns, ArePlans, AreDevices, IsUpAndWorks, IsOnItsWay, rising, IsBroughtTo, BringUpRests as Rests, RunsOut, BringUpTurns as Turns}
+use Rattle.ec_bringup.proofs.Words.{ℕ, zero, suc, ◌+◌, ◌<◌, ◌≤◌, ◌≡◌, ◌≢◌, ◌==◌, Bool, true, false, refl, sym, ◌∙◌, ap, subst, inl, inr, arith, if◌then◌else◌, List, length, map, nat_lt, both_ways, cases_eq, eq-eqb, ne_eqb, if_true, if_false, Datagram, Payload, IsFrame, with_datagrams, bare_payload, SlaveState, served, passes_ring, HasPassedRing, SlavePlan, Action, Phase, Idle, Sent, Ready, Failed, TooSlow, Lost, datagram_of, frame_of, script, StartState, action_of, asked, asked_by, next_frame, next_frame_by, begun, sending, taken, judged, max_polls, second, is_ended, is_sent, last_number, type_of, IsStartTaken, NextFrame, Send, Waiting, Ended, Verdict, Again, Fails, Fed, Feed, frames_of, taken_plan, Rising, frame_at, all_passed, all_met, turned, turns, ArePlansWith, AreDevices, IsUpAndWorks, IsOnItsWay, rising, IsBroughtTo, BringUpRests as Rests, RunsOut, BringUpTurns as Turns}
 use Rattle.ec_bringup.proofs.AllSlaves.RoundLaw.{round}
 use Rattle.ec_bringup.proofs.StartUp.ComesUpLaw.{comes-up}
 use Rattle.ec_bringup.proofs.OneFrame.FrameLaw.{gives_up, Says, take-says}
@@ -89,10 +89,11 @@ Follows s t = (t.next ≡ s.next) × (is_sent t.phase ≡ false) × (lost_phase 
 judged-follows : (a : Action) (d : Datagram) (s : StartState) (v : Verdict) → Says a d v → Follows s (judged s v)
 judged-follows a d s Again h = by (s.polls + 1 == max_polls)
   where
-    by : (b : Bool) → Follows s (if b then record s { phase = Failed (TooSlow s.place) } else record s { polls = s.polls + 1; phase = Idle })
+    by : (b : Bool) → Follows s (if b then record s { phase = Failed (TooSlow s.place) } else record s { fed = 0; polls = s.polls + 1; phase = Idle })
     by true = (refl, refl, refl)
     by false = (refl, refl, refl)
 judged-follows a d s (Fails error) h = (refl, refl, h)
+judged-follows a d s Fed h = (refl, refl, refl)
 judged-follows a d s _ h =
     elim (nat_lt (s.place + 1) (length (script s.plan))) as (λ b. (s.next ≡ s.next) × (is_sent (if b then Idle else Ready) ≡ false) × (lost_phase (if b then Idle else Ready) ≡ false)) [
       | true ↦ (refl, refl, refl)
@@ -160,10 +161,10 @@ follow _ _ from (suc n) few ready way (Turns r e h l rest) =
     (λ k b. let w = way (suc k) (omega (arith, b)) in let same : from + suc k ≡ from + 1 + k = omega arith in subst (λ (x : ℕ). IsOnItsWay x (turns (suc k) r)) same w)
     rest
 
-pub up : (ps : List SlavePlan) (from : ℕ) (s t : StartState) (ss xs : List SlaveState) → IsBroughtTo (rising s ss) (rising t xs) → ArePlans ps → s ≡ begun ps from → AreDevices ps ss → from + length (script ps) ≤ last_number
-    → IsUpAndWorks ps (from + length (script ps)) (rising t xs)
-up ps from s t ss xs brought plans begins devices few =
-    let c = comes-up ps plans from ss devices in
-    let b : IsBroughtTo (rising (begun ps from) ss) (rising t xs) = subst (λ (x : StartState). IsBroughtTo (rising x ss) (rising t xs)) begins brought in
-    let e : rising t xs ≡ turns (length (script ps)) (rising (begun ps from) ss) = follow (rising (begun ps from) ss) (rising t xs) from (length (script ps)) few c.0.ready c.1 b in
-    subst (IsUpAndWorks ps (from + length (script ps))) (sym e) c.0
+pub up : (ps : List SlavePlan) (fs : List Feed) (from : ℕ) (s t : StartState) (ss xs : List SlaveState) → IsBroughtTo (rising s ss) (rising t xs) → ArePlansWith ps fs → s ≡ begun ps fs from → AreDevices ps ss
+    → from + frames_of fs (script ps) ≤ last_number → IsUpAndWorks ps (from + frames_of fs (script ps)) (rising t xs)
+up ps fs from s t ss xs brought plans begins devices few =
+    let c = comes-up ps fs plans from ss devices in
+    let b : IsBroughtTo (rising (begun ps fs from) ss) (rising t xs) = subst (λ (x : StartState). IsBroughtTo (rising x ss) (rising t xs)) begins brought in
+    let e : rising t xs ≡ turns (frames_of fs (script ps)) (rising (begun ps fs from) ss) = follow (rising (begun ps fs from) ss) (rising t xs) from (frames_of fs (script ps)) few c.0.ready c.1 b in
+    subst (IsUpAndWorks ps (from + frames_of fs (script ps))) (sym e) c.0

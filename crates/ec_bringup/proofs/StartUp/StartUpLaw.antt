@@ -1,14 +1,16 @@
 -- Every run of a world that starts up: up to the step that makes it ready, and from then on without a cycle.
-use Rattle.ec_bringup.proofs.Words.{ℕ, ◌<◌, ◌≤◌, ◌≡◌, ◌==◌, Bool, true, false, Option, Some, None, refl, sym, ◌∙◌, ap, subst, inl, inr, arith, List, [], ◌∷◌, length, get_or, replicate, drop, cases_Bool, and_parts, eqb-true, length-replicate, if_true, if_false, SlaveKind, Datagram, IsDatagram, SlaveState, power_on, slave_met, datagram_met, passes as passes_all, SlavePlan, datagram_of, name_datagram, script, StartError, Lost, StartState, sending, action_of, taken, begun, Ready, Failed, Config, Talk, Stage, Before, Up, end_of, Leads, AreAhead, IsBetween, Instant, Between, UnderWay, Adrift, Over, IsReady, Starts, IsOfKind, IsConfigured, IsSilent, IsUpAt, IsFaultedAt, Talks, Stands, IsStartable, Carried, Starting, slave_at, trouble_at, kind_at, no_plan, AreSlaves, is_idle, is_beginning, with_passed, with_start, with_sent, with_begun, with_empty, with_lost, AreStartable, ends_of, Happens, Sends, Passes, Loses, Returns, Strays, Closes, Serves, Puts, Gets, Faults, Resets, Runs, Stops, Steps, Begins, HoldsAll, Works, HasFault, SlaveHealth, Working, Faulted, WasReset, StartUpLaw, IsNew, taken_plan, Idle, IsUnderWay, ◌⊎◌, IsOver}
+use Rattle.ec_bringup.proofs.Words.{ℕ, ◌<◌, ◌≤◌, ◌≡◌, ◌==◌, Bool, true, false, Option, Some, None, refl, sym, ◌∙◌, ap, subst, inl, inr, arith, List, [], ◌∷◌, length, get_or, replicate, drop, cases_Bool, and_parts, eqb-true, length-replicate, if_true, if_false, SlaveKind, Datagram, IsDatagram, SlaveState, power_on, slave_met, datagram_met, passes as passes_all, SlavePlan, datagram_of, name_datagram, script, StartError, Lost, StartState, sending, action_of, taken, begun, Ready, Failed, Config, Talk, Stage, Before, Up, end_of, Leads, AreAhead, IsBetween, Instant, Between, UnderWay, Adrift, Over, IsReady, Starts, IsOfKind, IsConfigured, IsSilent, IsUpAt, IsFaultedAt, Talks, Stands, IsStartable, Carried, Starting, slave_at, trouble_at, kind_at, no_plan, AreSlaves, is_idle, is_beginning, with_passed, with_start, with_sent, with_begun, with_empty, with_lost, AreStartable, ends_of, Happens, Sends, Passes, Loses, Returns, Strays, Closes, Serves, Puts, Gets, Faults, Resets, Runs, Stops, Steps, Begins, HoldsAll, Works, HasFault, SlaveHealth, Working, Faulted, WasReset, StartUpLaw, IsNew, taken_plan, Idle, IsUnderWay, ◌⊎◌, IsOver, step_of, Action, Arrives, Sent, Feed, AreFeedsOf, IsFeedAt, IsFeeding, Feeding, opened, is_hardware, ◌++◌}
 use Rattle.ec_bringup.proofs.AllSlaves.RoundLaw.{two-pass}
 use Rattle.ec_bringup.proofs.OneSlave.Reset.{reset_stands}
 use Rattle.ec_bringup.proofs.OneSlave.Fault.{fault-stands, put-stands, got-stands}
 use Rattle.ec_bringup.proofs.OneSlave.MailboxServed.{stands-served}
-use Rattle.ec_bringup.proofs.OneFrame.FrameLaw.{pass-law, later-law, take-law}
+use Rattle.ec_bringup.proofs.OneFrame.FrameLaw.{pass-law, later-law, take-law, fed-law}
+use Rattle.ec_bringup.proofs.OneFrame.FeedLaw.{feed_law, feed-sets-out}
+use Rattle.ec_bringup.proofs.Script.FedSteps.{Acts, Own, Part, acts}
 use Rattle.ec_bringup.proofs.OneSlave.SlaveLaw.{slave-law}
 use Rattle.ec_bringup.proofs.Mailbox.Assignments.{assignment-held}
-use Rattle.ec_bringup.proofs.Script.Walks.{script-leads, asked-frame}
-use Rattle.ec_bringup.proofs.StartUp.Keeps.{pass-starts, pass-slaves, take-starts, slave-starts, keeps-by}
+use Rattle.ec_bringup.proofs.Script.Walks.{script-leads, script-named, asked-frame}
+use Rattle.ec_bringup.proofs.StartUp.Keeps.{AllSetAt, feed-passes, feed-returns, pass-starts, pass-slaves, take-starts, slave-starts, keeps-by}
 use Rattle.ec_bringup.proofs.AllSlaves.FramePasses.{sets-out}
 
 -- ---- a frame is sent
@@ -19,7 +21,12 @@ cleared w = record { start = w.start; slaves = w.slaves; troubles = replicate (l
 
 from-before : (ps : List SlavePlan) (i : ℕ) (st end : Stage) → i < length ps → Leads i st (script ps) end → Leads i Before (script ps) end
 from-before [] i st end l h = absurd (omega (arith, l))
-from-before (p ∷ ps) i st end l h = h
+from-before (p ∷ ps) i st end l h = (tt, past (is_hardware (p ∷ ps)) _ h.1)
+  where
+    -- the second action is the request for INIT, with `hardware` and without
+    past : (b : Bool) (xs : List Action) → Leads i st (opened b ++ xs) end → Leads i Before (opened b ++ xs) end
+    past true xs k = k
+    past false xs k = k
 
 cleared-between : (ends : ℕ → Config) (w : Starting) → AreSlaves w → IsBetween ends w → w.start.place ≡ 0 → IsBetween ends (cleared w)
 cleared-between ends w h b e = record {
@@ -28,6 +35,7 @@ cleared-between ends w h b e = record {
   inside = b.inside;
   stages = λ i. Before;
   ahead = record {
+    named = b.ahead.named;
     each = λ i l. subst (λ (k : ℕ). Leads i Before (drop k (script w.start.plan)) (Up (ends i))) (sym e)
         (from-before w.start.plan i (b.stages i) (Up (ends i)) l (subst (λ (k : ℕ). Leads i (b.stages i) (drop k (script w.start.plan)) (Up (ends i))) e (b.ahead.each i l)));
   };
@@ -43,33 +51,56 @@ sent-with w flags = record {
   slot = Some (record { number = w.start.next; passed = 0; datagram = datagram_of (action_of w.start) w.start.next });
 }
 
-sent-between : (ends : ℕ → Config) (w : Starting) → AreSlaves w → IsDatagram (datagram_of (action_of w.start) w.start.next) → IsBetween ends w → Starts ends (sent-with w w.troubles)
-sent-between ends w h good b = record {
-  slaves = record { slaves = h.slaves; troubles = h.troubles; few = h.few; each = h.each };
-  instant = UnderWay (record {
-    carried = record { number = w.start.next; passed = 0; datagram = datagram_of (action_of w.start) w.start.next };
-    sent = refl;
-    full = refl;
-    inside = b.inside;
-    few = omega arith;
-    stages = b.stages;
-    ahead = b.ahead;
-    good = good;
-    arrives = sets-out (action_of w.start) w.start.next;
-    met = record { passed = λ i l. absurd (omega (arith, l)); to_come = λ i l m. b.stand.each i m };
-  });
-}
+sent-between : (ends : ℕ → Config) (w : Starting) → AreSlaves w → AreFeedsOf w.start.plan w.start.feeds → IsDatagram (datagram_of (action_of w.start) w.start.next) → IsBetween ends w → Starts ends (sent-with w w.troubles)
+sent-between ends w h fed good b = by (acts w.start)
+  where
+    by : Acts w.start → Starts ends (sent-with w w.troubles)
+    by (Own own none) = record {
+      slaves = record { slaves = h.slaves; troubles = h.troubles; few = h.few; each = h.each };
+      feeds = fed;
+      instant = UnderWay (record {
+        acts = own;
+        carried = record { number = w.start.next; passed = 0; datagram = datagram_of (action_of w.start) w.start.next };
+        sent = refl;
+        full = refl;
+        inside = b.inside;
+        few = omega arith;
+        stages = b.stages;
+        ahead = b.ahead;
+        good = good;
+        arrives = subst (λ (a : Action). Arrives (step_of w.start) w.start.next 0 (datagram_of a w.start.next)) (sym own) (sets-out (step_of w.start) w.start.next);
+        met = record { passed = λ i l. absurd (omega (arith, l)); to_come = λ i l m. b.stand.each i m };
+      });
+    }
+    by (Part f feeds on which) = record {
+      slaves = record { slaves = h.slaves; troubles = h.troubles; few = h.few; each = h.each };
+      feeds = fed;
+      instant = Feeding (record {
+        feed = f;
+        feeds = feeds;
+        carried = record { number = w.start.next; passed = 0; datagram = datagram_of (action_of w.start) w.start.next };
+        sent = refl;
+        full = refl;
+        inside = b.inside;
+        few = omega arith;
+        stages = b.stages;
+        ahead = b.ahead;
+        good = good;
+        arrives = subst (λ (a : Action). IsFeedAt w.start.plan f w.start.next 0 (datagram_of a w.start.next)) (sym feeds) (feed-sets-out w.start.plan f w.start.next);
+        stand = b.stand;
+      });
+    }
 
-sent-starts : (ends : ℕ → Config) (w : Starting) → AreSlaves w → IsDatagram (datagram_of (action_of w.start) w.start.next) → IsBetween ends w → Starts ends (with_sent w)
-sent-starts ends w h good b = elim (cases_Bool (is_beginning w.start)) [
+sent-starts : (ends : ℕ → Config) (w : Starting) → AreSlaves w → AreFeedsOf w.start.plan w.start.feeds → IsDatagram (datagram_of (action_of w.start) w.start.next) → IsBetween ends w → Starts ends (with_sent w)
+sent-starts ends w h fed good b = elim (cases_Bool (is_beginning w.start)) [
   | inl on ↦
       let place : w.start.place ≡ 0 = eqb-true w.start.place 0 (and_parts (is_idle w.start.phase) (w.start.place == 0) on).1 in
       subst (λ (flags : List Bool). Starts ends (sent-with w flags)) (sym (if_true (is_beginning w.start) (replicate (length w.start.plan) false) w.troubles on))
       (sent-between ends (cleared w) (record { slaves = h.slaves; troubles = length-replicate {A = Bool} (length w.start.plan) false; few = h.few; each = h.each })
-      good (cleared-between ends w h b place))
+      fed good (cleared-between ends w h b place))
   | inr off ↦
       subst (λ (flags : List Bool). Starts ends (sent-with w flags)) (sym (if_false (is_beginning w.start) (replicate (length w.start.plan) false) w.troubles off))
-      (sent-between ends w h good b)
+      (sent-between ends w h fed good b)
 ]
 
 -- ---- a start-up begins, in a new world or after a failure
@@ -79,13 +110,17 @@ some-script [] = omega arith
 some-script (p ∷ ps) = omega arith
 
 script-ahead : (ps : List SlavePlan) → length ps ≤ 64 → AreStartable ps → AreAhead ps (script ps) (ends_of ps) (λ i. Before)
-script-ahead [] few h = record { each = λ i l. absurd (omega (arith, l)) }
-script-ahead (p ∷ ps) few h = record { each = λ i l. script-leads no_plan p ps i l few (h.each i l) }
+script-ahead [] few h = record { each = λ i l. absurd (omega (arith, l)); named = λ i l. absurd (omega (arith, l)) }
+script-ahead (p ∷ ps) few h = record {
+  each = λ i l. script-leads no_plan p ps i l few (h.each i l);
+  named = λ i l. script-named no_plan p ps i (h.each i l).numbered (h.each i l).has_fmmus (λ e. (h.each i l).faceless (h.alike i l ∙ e));
+}
 
-pub begun-starts : (w : Starting) → AreSlaves w → AreStartable w.start.plan → Starts (ends_of w.start.plan) (with_begun w)
+pub begun-starts : (w : Starting) → AreSlaves w → AreFeedsOf w.start.plan w.start.feeds → AreStartable w.start.plan → Starts (ends_of w.start.plan) (with_begun w)
 unfolding begun
-begun-starts w h planned = record {
+begun-starts w h fed planned = record {
   slaves = record { slaves = h.slaves; troubles = h.troubles; few = h.few; each = h.each };
+  feeds = fed;
   instant = Between (record {
     idle = refl;
     empty = refl;
@@ -98,8 +133,8 @@ begun-starts w h planned = record {
 
 -- ---- the events of a world that starts up
 
-over : (ends : ℕ → Config) (v : Starting) (f : StartError) → AreSlaves v → v.start.phase ≡ Failed f → Starts ends v
-over ends v f h e = record { slaves = h; instant = Over (record { failure = f; failed = e }) }
+over : (ends : ℕ → Config) (v : Starting) (f : StartError) → AreSlaves v → AreFeedsOf v.start.plan v.start.feeds → v.start.phase ≡ Failed f → Starts ends v
+over ends v f h fed e = record { slaves = h; feeds = fed; instant = Over (record { failure = f; failed = e }) }
 
 same-slaves : (w : Starting) (s : StartState) (o : Option Carried) → s.plan ≡ w.start.plan → AreSlaves w → AreSlaves (record { start = s; slaves = w.slaves; troubles = w.troubles; slot = o })
 same-slaves w s o e h = record {
@@ -112,46 +147,58 @@ same-slaves w s o e h = record {
 between-of : (ends : ℕ → Config) (w : Starting) → w.start.phase ≡ Idle → Instant ends w → IsBetween ends w
 between-of ends w idle (Between b) = b
 between-of ends w idle (UnderWay b) = absurd (cc (sym idle ∙ b.sent))
+between-of ends w idle (Feeding b) = absurd (cc (sym idle ∙ b.sent))
 between-of ends w idle (Adrift b) = absurd (cc (sym idle ∙ b.sent))
 between-of ends w idle (Over b) = absurd (cc (sym idle ∙ b.failed))
 between-of ends w idle (IsReady b) = absurd (cc (sym idle ∙ b.ready))
 
--- a frame in the slot is under way, or the start-up has failed
-full-of : (ends : ℕ → Config) (w : Starting) (c : Carried) → w.slot ≡ Some c → Instant ends w → ((u : IsUnderWay ends w) × (u.carried ≡ c)) ⊎ IsOver w
+-- a frame in the slot is under way, feeding a part or not, or the start-up has failed
+full-of : (ends : ℕ → Config) (w : Starting) (c : Carried) → w.slot ≡ Some c → Instant ends w
+    → ((u : IsUnderWay ends w) × (u.carried ≡ c)) ⊎ (((u : IsFeeding ends w) × (u.carried ≡ c)) ⊎ IsOver w)
 full-of ends w c full (UnderWay b) = inl (b, (cc (sym b.full ∙ full)))
-full-of ends w c full (Over b) = inr b
+full-of ends w c full (Feeding b) = inr (inl (b, (cc (sym b.full ∙ full))))
+full-of ends w c full (Over b) = inr (inr b)
 full-of ends w c full (Between b) = absurd (cc (sym b.empty ∙ full))
 full-of ends w c full (Adrift b) = absurd (cc (sym b.empty ∙ full))
 full-of ends w c full (IsReady b) = absurd (cc (sym b.empty ∙ full))
 
-pub happens-starts : (ends : ℕ → Config) (w v : Starting) → Happens w v → Starts ends w → Starts ends v
-happens-starts ends w v (Sends idle good e) h = subst (Starts ends) (sym e) (sent-starts ends w h.slaves good (between-of ends w idle h.instant))
-happens-starts ends w v (Passes c full l e) h = subst (Starts ends) (sym e) (elim (full-of ends w c full h.instant) [
+-- the outstanding frame is lost
+adrift : (ends : ℕ → Config) (w : Starting) (number : ℕ) → Starts ends w → w.start.phase ≡ Sent number → Starts ends (with_empty w)
+adrift ends w number h sent = record { slaves = same-slaves w w.start None refl h.slaves; feeds = h.feeds; instant = Adrift (record { number = number; sent = sent; empty = refl }) }
+
+pub happens-starts : (ends : ℕ → Config) (w v : Starting) → ((i : ℕ) → i < length w.start.plan → AllSetAt w.start.plan ends i) → Happens w v → Starts ends w → Starts ends v
+happens-starts ends w v sets (Sends idle good e) h = subst (Starts ends) (sym e) (sent-starts ends w h.slaves h.feeds good (between-of ends w idle h.instant))
+happens-starts ends w v sets (Passes c full l e) h = subst (Starts ends) (sym e) (elim (full-of ends w c full h.instant) [
   | inl (u, q) ↦
       subst (λ (x : Carried). Starts ends (with_passed w x)) q
-      (pass-starts slave-law pass-law later-law ends w h.slaves u (subst (λ (x : Carried). x.passed < length w.start.plan) (sym q) l))
-  | inr b ↦ over ends (with_passed w c) b.failure (pass-slaves slave-law w c l h.slaves) b.failed
+      (pass-starts slave-law pass-law later-law ends w h.slaves h.feeds u (subst (λ (x : Carried). x.passed < length w.start.plan) (sym q) l))
+  | inr (inl (u, q)) ↦
+      subst (λ (x : Carried). Starts ends (with_passed w x)) q
+      (feed-passes slave-law feed_law ends w h.slaves h.feeds sets u (subst (λ (x : Carried). x.passed < length w.start.plan) (sym q) l))
+  | inr (inr b) ↦ over ends (with_passed w c) b.failure (pass-slaves slave-law w c l h.slaves) h.feeds b.failed
 ])
-happens-starts ends w v (Loses c full e) h = subst (Starts ends) (sym e) (elim (full-of ends w c full h.instant) [
-  | inl (u, q) ↦ record { slaves = same-slaves w w.start None refl h.slaves; instant = Adrift (record { number = u.carried.number; sent = u.sent; empty = refl }) }
-  | inr b ↦ over ends (with_empty w) b.failure (same-slaves w w.start None refl h.slaves) b.failed
+happens-starts ends w v sets (Loses c full e) h = subst (Starts ends) (sym e) (elim (full-of ends w c full h.instant) [
+  | inl (u, q) ↦ adrift ends w u.carried.number h u.sent
+  | inr (inl (u, q)) ↦ adrift ends w u.carried.number h u.sent
+  | inr (inr b) ↦ over ends (with_empty w) b.failure (same-slaves w w.start None refl h.slaves) h.feeds b.failed
 ])
-happens-starts ends w v (Returns c full l sent e) h = subst (Starts ends) (sym e) (elim (full-of ends w c full h.instant) [
+happens-starts ends w v sets (Returns c full l sent e) h = subst (Starts ends) (sym e) (elim (full-of ends w c full h.instant) [
   | inl (u, q) ↦
-      subst (λ (x : Carried). Starts ends (with_start w (taken w.start x.datagram))) q (take-starts take-law ends w h.slaves u (ap (λ (x : Carried). x.passed) q ∙ l))
-  | inr b ↦ absurd (cc (sym sent ∙ b.failed))
+      subst (λ (x : Carried). Starts ends (with_start w (taken w.start x.datagram))) q (take-starts take-law fed-law ends w h.slaves h.feeds u (ap (λ (x : Carried). x.passed) q ∙ l))
+  | inr (inl (u, q)) ↦ subst (λ (x : Carried). Starts ends (with_start w (taken w.start x.datagram))) q (feed-returns ends w h.slaves h.feeds u)
+  | inr (inr b) ↦ absurd (cc (sym sent ∙ b.failed))
 ])
-happens-starts ends w v (Strays c f full failed e) h = subst (Starts ends) (sym e) (over ends (with_empty w) f (same-slaves w w.start None refl h.slaves) failed)
-happens-starts ends w v (Closes number sent e) h = subst (Starts ends) (sym e) (over ends (with_lost w) Lost (same-slaves w (record w.start { phase = Failed Lost }) w.slot refl h.slaves) refl)
-happens-starts ends w v (Serves k l e) h =
+happens-starts ends w v sets (Strays c f full failed e) h = subst (Starts ends) (sym e) (over ends (with_empty w) f (same-slaves w w.start None refl h.slaves) h.feeds failed)
+happens-starts ends w v sets (Closes number sent e) h = subst (Starts ends) (sym e) (over ends (with_lost w) Lost (same-slaves w (record w.start { phase = Failed Lost }) w.slot refl h.slaves) h.feeds refl)
+happens-starts ends w v sets (Serves k l e) h =
     subst (Starts ends) (sym e) (slave-starts ends w k _ _ l (keeps-by (λ i st. stands-served (kind_at w.start.plan k) i st (trouble_at w.troubles k) (slave_at w.slaves k))) h)
-happens-starts ends w v (Puts k place byte l e) h =
+happens-starts ends w v sets (Puts k place byte l e) h =
     subst (Starts ends) (sym e) (slave-starts ends w k _ _ l (keeps-by (λ i st. put-stands (kind_at w.start.plan k) i st (trouble_at w.troubles k) (slave_at w.slaves k) place byte)) h)
-happens-starts ends w v (Gets k place l e) h =
+happens-starts ends w v sets (Gets k place l e) h =
     subst (Starts ends) (sym e) (slave-starts ends w k _ _ l (keeps-by (λ i st. got-stands (kind_at w.start.plan k) i st (trouble_at w.troubles k) (slave_at w.slaves k) place)) h)
-happens-starts ends w v (Faults k l op e) h =
+happens-starts ends w v sets (Faults k l op e) h =
     subst (Starts ends) (sym e) (slave-starts ends w k _ _ l (keeps-by (λ i st. fault-stands (kind_at w.start.plan k) i st (trouble_at w.troubles k) (slave_at w.slaves k) op)) h)
-happens-starts ends w v (Resets k l e) h =
+happens-starts ends w v sets (Resets k l e) h =
     subst (Starts ends) (sym e) (slave-starts ends w k _ _ l (keeps-by (λ i st q.
     subst (λ (x : SlaveKind). Stands x i st true (power_on (slave_at w.slaves k).kind (slave_at w.slaves k).identity)) (h.slaves.each k l).kind_is (reset_stands (slave_at w.slaves k).kind (slave_at w.slaves k).identity i st))) h)
 
@@ -193,6 +240,7 @@ ready-shown w planned h ready i l = elim h.instant [
   | IsReady b ↦ stands-shown i (get_or w.start.plan i no_plan) (trouble_at w.troubles i) (slave_at w.slaves i) (planned.each i l) (b.stand.each i l)
   | Between b ↦ absurd (cc (sym b.idle ∙ ready))
   | UnderWay b ↦ absurd (cc (sym b.sent ∙ ready))
+  | Feeding b ↦ absurd (cc (sym b.sent ∙ ready))
   | Adrift b ↦ absurd (cc (sym b.sent ∙ ready))
   | Over b ↦ absurd (cc (sym b.failed ∙ ready))
 ]
@@ -219,6 +267,14 @@ pub begun-plan : (w : Starting) → (with_begun w).start.plan ≡ w.start.plan
 unfolding begun
 begun-plan w = refl
 
+-- the script leaves in each slave what its plan has
+sets-of : (ps : List SlavePlan) (i : ℕ) → AllSetAt ps (ends_of ps) i
+sets-of ps i = record { managers = refl; fmmus = refl }
+
+-- an event of a world that starts up this plan
+pub happens-on : (ps : List SlavePlan) (w v : Starting) → w.start.plan ≡ ps → Happens w v → Starts (ends_of ps) w → Starts (ends_of ps) v
+happens-on ps w v is e h = happens-starts (ends_of ps) w v (subst (λ (qs : List SlavePlan). (i : ℕ) → i < length qs → AllSetAt qs (ends_of ps) i) (sym is) (λ i l. sets-of ps i)) e h
+
 pub record IsGood (ps : List SlavePlan) (w : Starting) : Type 0 where
   pub plan_is : w.start.plan ≡ ps
   pub starts : Starts (ends_of ps) w
@@ -226,23 +282,24 @@ pub record IsGood (ps : List SlavePlan) (w : Starting) : Type 0 where
 pub runs-good : (ps : List SlavePlan) → AreStartable ps → (w v : Starting) → Runs w v → IsGood ps w → IsGood ps v
 runs-good ps planned w v (Stops x) h = h
 runs-good ps planned w v (Steps x u y e r) h =
-    runs-good ps planned u v r (record { plan_is = happens-plan w u e ∙ h.plan_is; starts = happens-starts (ends_of ps) w u e h.starts })
+    runs-good ps planned u v r (record { plan_is = happens-plan w u e ∙ h.plan_is; starts = happens-on ps w u h.plan_is e h.starts })
 runs-good ps planned w v (Begins x y f failed empty r) h =
     runs-good ps planned (with_begun w) v r (record {
       plan_is = begun-plan w ∙ h.plan_is;
-      starts = subst (λ (qs : List SlavePlan). Starts (ends_of qs) (with_begun w)) h.plan_is (begun-starts w h.starts.slaves (subst AreStartable (sym h.plan_is) planned));
+      starts = subst (λ (qs : List SlavePlan). Starts (ends_of qs) (with_begun w)) h.plan_is (begun-starts w h.starts.slaves h.starts.feeds (subst AreStartable (sym h.plan_is) planned));
     })
 
-pub new-good : (ps : List SlavePlan) → AreStartable ps → (w : Starting) → IsNew ps w → IsGood ps w
-new-good ps planned w new = record {
+pub new-good : (ps : List SlavePlan) (fs : List Feed) → AreStartable ps → AreFeedsOf ps fs → (w : Starting) → IsNew ps fs w → IsGood ps w
+new-good ps fs planned fed w new = record {
   plan_is = new.plan_is;
   starts = subst (λ (x : Starting). Starts (ends_of ps) x) (sym new.start)
-      (subst (λ (qs : List SlavePlan). Starts (ends_of qs) (with_begun w)) new.plan_is (begun-starts w new.slaves (subst AreStartable (sym new.plan_is) planned)));
+      (subst (λ (qs : List SlavePlan). Starts (ends_of qs) (with_begun w)) new.plan_is
+      (begun-starts w new.slaves (subst (λ (qs : List SlavePlan). AreFeedsOf qs w.start.feeds) (sym new.plan_is) (subst (λ (gs : List Feed). AreFeedsOf ps gs) (sym new.feeds_are) fed)) (subst AreStartable (sym new.plan_is) planned)));
 }
 
 pub start-up : StartUpLaw
-start-up ps planned w v new r ready i l =
-    let g : IsGood ps v = runs-good ps planned w v r (new-good ps planned w new) in
+start-up ps fs planned fed w v new r ready i l =
+    let g : IsGood ps v = runs-good ps planned w v r (new-good ps fs planned fed w new) in
     subst (λ (qs : List SlavePlan). SlaveHealth i (get_or qs i no_plan) (trouble_at v.troubles i) (slave_at v.slaves i)) g.plan_is
     (ready-shown v (subst AreStartable (sym g.plan_is) planned) (subst (λ (qs : List SlavePlan). Starts (ends_of qs) v) (sym g.plan_is) g.starts) ready i (subst (λ (qs : List SlavePlan). i < length qs) (sym g.plan_is) l))
 

@@ -1,17 +1,19 @@
 -- The managers of a slave go by runs.
-use Rattle.std.proofs.Common.{ℕ, zero, suc, ◌+◌, ◌≡◌, ◌≤◌, ◌==◌, ◌&&◌, not, Bool, true, false, Option, Some, None, is_some, option_map, unwrap_or, refl, sym, ◌∙◌, ap, subst, inl, inr, if◌then◌else◌, List, [], ◌∷◌, ◌++◌, map, slice_set, ◌<◌, length-append, arith}
+use Rattle.std.proofs.Common.{ℕ, zero, suc, ◌+◌, ◌≡◌, ◌≤◌, ◌==◌, ◌&&◌, not, Bool, true, false, Option, Some, None, is_some, option_map, unwrap_or, refl, sym, ◌∙◌, ap, subst, inl, inr, if◌then◌else◌, List, [], ◌∷◌, ◌++◌, map, slice_set, ◌<◌, length-append, arith, append-nil, length, length-set}
 use Rattle.std.proofs.lemmas.List.Elements.{All-nil, All-cons, All-append}
 use Rattle.std.proofs.lemmas.Bool.{cases_Bool, eq-eqb, ne_eqb}
 use Rattle.ec_bits.proofs.AnyLaws.{if_true, if_false}
-use Rattle.ec_al.specs.Al.{is_operational}
+use Rattle.ec_device.specs.declared.hardware.Hardware.{Hardware}
+use Rattle.ec_al.specs.Al.{Al, is_operational}
 use Rattle.ec_al.specs.declared.state.State.{State}
+use Rattle.ec_al.specs.declared.state.State.TheVariants.{Init, PreOp, SafeOp, Op}
 use Rattle.ec_coe.specs.declared.message.Message.{Message}
 use Rattle.ec_frame.specs.declared.command.Command.{Command}
 use Rattle.ec_frame.specs.declared.command.Command.TheVariants.{Nop, Aprd, Apwr, Aprw, Fprd, Fpwr, Fprw, Brd, Bwr, Brw, Lrd, Lwr, Lrw, Armw, Frmw}
 use Rattle.ec_frame.specs.Datagram.{Datagram, adp_of}
 use Rattle.ec_sync.specs.Buffer.{Got}
-use Rattle.ec_sync.specs.SyncManager.{SyncManager, app_put, app_got, after_get, may_write, may_read, message_taken, message_put}
-use Rattle.ec_sync.specs.Runs.{Operation, Configure, Lock, Empty, PublishZeros, RingWrite, RingRead, AppPut, AppGet, MessageTake, MessagePut, step, run}
+use Rattle.ec_sync.specs.SyncManager.{SyncManager, awaiting, zeros_published, app_put, app_got, after_get, may_write, may_read, message_taken, message_put}
+use Rattle.ec_sync.specs.Runs.{Operation, Configure, Lock, Empty, PublishZeros, Await, RingWrite, RingRead, AppPut, AppGet, MessageTake, MessagePut, step, run}
 use Rattle.ec_fmmu.specs.Applied.{touched_by_reading, touched_by_writing}
 use Rattle.ec_slave.specs.Roles.{role_of, is_reading, is_writing}
 use Rattle.ec_slave.specs.State.{SlaveState, manager_at, fmmus, station_of}
@@ -21,9 +23,9 @@ use Rattle.ec_slave.specs.AgainstAll.{each_from, governs_among, value_among, bit
 use Rattle.ec_slave.specs.Logical.{meets_logically, span_of}
 use Rattle.ec_slave.specs.Meeting.{meets, meets_by, meets_physically, window_of}
 use Rattle.ec_slave.specs.Application.{is_running, with_manager, output_taken}
-use Rattle.ec_slave.specs.Serving.{served, request_decided, read_finished, message_served, managers_entered, unlocked_empty, reply_given, request_in, refusal_in, refused, bytes_to, is_served, is_init, is_safeop, is_preop}
+use Rattle.ec_slave.specs.Serving.{served, al_decided, has_outputs, is_awaiting, outputs_awaited, with_al, request_decided, read_finished, message_served, managers_entered, unlocked_empty, reply_given, request_in, refusal_in, refused, bytes_to, is_served, is_init, is_safeop, is_preop}
 use Rattle.ec_slave.specs.Faulting.{faulted}
-use Rattle.ec_slave.specs.Steps.{AccessesAreSteps, IsRunTo, ManagersGoByRuns, is_of_ring, is_of_firmware, is_of_application, said_from, to_each, to_one, access_steps, physical_steps, logical_steps, steps_met, steps_entered, steps_decided, bytes_back, message_steps, steps_answered}
+use Rattle.ec_slave.specs.Steps.{AccessesAreSteps, IsRunTo, ManagersGoByRuns, is_of_ring, is_of_firmware, is_of_application, said_from, to_each, to_one, access_steps, physical_steps, logical_steps, steps_met, steps_awaited, steps_entered, steps_decided, steps_to, bytes_back, message_steps, steps_answered}
 use Rattle.ec_slave.proofs.Memory.AgainstAll.{physical_against_all, logical_against_all}
 use Rattle.ec_slave.proofs.AppAccess.WholeInputs.{both_true}
 
@@ -175,9 +177,9 @@ physically_run s d =
     let reads : Bool = is_reading role in
     let writes : Bool = is_writing role in
     let w = window_of d in
-    subst (λ (ms : List SyncManager). AllRunTo is_of_ring 1 (physical_steps s d) s.managers ms) (sym (physical_against_all reads writes w s.managers))
-    (each_run is_of_ring 1 0 _ _ s.managers (λ n m. either_run is_of_ring 1 (writes && is_configured w n) _ _ m _ _
-    (one_step is_of_ring 1 m _ (Configure (settings_written w n m)) (omega arith) refl refl) (accessed reads writes (touches w) (touches w) (governs_among s.managers n) (value_among s.managers w n) m)))
+    subst (λ (ms : List SyncManager). AllRunTo is_of_ring 1 (physical_steps s d) s.managers ms) (sym (physical_against_all s.kind.hardware reads writes w s.managers))
+    (each_run is_of_ring 1 0 _ _ s.managers (λ n m. either_run is_of_ring 1 (writes && is_configured s.kind.hardware w n) _ _ m _ _
+    (one_step is_of_ring 1 m _ (Configure (settings_written s.kind.hardware w n m)) (omega arith) refl refl) (accessed reads writes (touches w) (touches w) (governs_among s.managers n) (value_among s.managers w n) m)))
 
 logically_run : (s : SlaveState) (reading writing : Bool) (weight : ℕ) (d : Datagram) → SlaveRuns is_of_ring 1 (logical_steps s reading writing d) s (meets_logically reading writing weight s d).slave
 unfolding meets_logically
@@ -222,9 +224,71 @@ entered_run old new ms =
     (set_run is_of_firmware 2 ms 3 (PublishZeros ∷ []) _ (one_step is_of_firmware 2 (manager_at ms 3) _ PublishZeros (omega arith) refl refl))
     (none_all is_of_firmware 2 ms))
 
+-- SAFEOP is entered: zeros at most
+safeop_run : (old : State) (ms : List SyncManager) → AllRunTo is_of_firmware 1 (steps_entered old SafeOp ms) ms (managers_entered old SafeOp ms)
+safeop_run old ms =
+    either_all is_of_firmware 1 (is_preop old) (to_one 3 (PublishZeros ∷ []) ms) (λ n. []) ms _ _
+    (set_run is_of_firmware 1 ms 3 (PublishZeros ∷ []) _ (one_step is_of_firmware 1 (manager_at ms 3) _ PublishZeros (omega arith) refl refl))
+    (none_all is_of_firmware 1 ms)
+
+awaited_run : (outputs : Bool) (ms : List SyncManager) → AllRunTo is_of_firmware 1 (to_one 2 (Await outputs ∷ []) ms) ms (slice_set ms 2 (awaiting (manager_at ms 2) outputs))
+awaited_run outputs ms = set_run is_of_firmware 1 ms 2 (Await outputs ∷ []) _ (one_step is_of_firmware 1 (manager_at ms 2) _ (Await outputs) (omega arith) refl refl)
+
+-- the steps that are given by the managers before are those of the managers then: there are as many
+as_long : (k : ℕ) (ops : List Operation) (i : ℕ) (xs ys : List SyncManager) (n : ℕ) → length xs ≡ length ys
+    → said_from i (λ j m. if j == k then ops else []) xs n ≡ said_from i (λ j m. if j == k then ops else []) ys n
+as_long k ops i [] [] n e = refl
+as_long k ops i [] (y ∷ ys) n e = absurd (omega (arith, e))
+as_long k ops i (x ∷ xs) [] n e = absurd (omega (arith, e))
+as_long k ops i (x ∷ xs) (y ∷ ys) zero e = refl
+as_long k ops i (x ∷ xs) (y ∷ ys) (suc n) e = as_long k ops (i + 1) xs ys n (omega (arith, e))
+
+zeros_long : (b : Bool) (ms : List SyncManager) → length (if b then slice_set ms 3 (zeros_published (manager_at ms 3)) else ms) ≡ length ms
+zeros_long true ms = length-set ms 3 (zeros_published (manager_at ms 3))
+zeros_long false ms = refl
+
+-- nothing follows
+followed_by_none : (kind : Operation → Bool) (most : ℕ) (ops : List Operation) (m after : SyncManager) → IsRunTo kind most ops m after → IsRunTo kind most (ops ++ []) m after
+followed_by_none kind most ops m after r = subst (λ (os : List Operation). IsRunTo kind most os m after) (sym (append-nil ops)) r
+
+-- a state is entered, and outputs are awaited
+state_run : (o : Option Hardware) (outputs : Bool) (old new : State) (ms : List SyncManager)
+    → AllRunTo is_of_firmware 2 (λ n. steps_entered old new ms n ++ steps_awaited o outputs old new ms n) ms (outputs_awaited o outputs old new (managers_entered old new ms))
+state_run None outputs old new ms n = followed_by_none is_of_firmware 2 _ _ _ (entered_run old new ms n)
+state_run (Some h) outputs old Init ms n = followed_by_none is_of_firmware 2 _ _ _ (entered_run old Init ms n)
+state_run (Some h) outputs old PreOp ms n = followed_by_none is_of_firmware 2 _ _ _ (entered_run old PreOp ms n)
+state_run (Some h) outputs old SafeOp ms n = by (is_safeop old)
+  where
+    entered : List SyncManager
+    entered = managers_entered old SafeOp ms
+
+    first : Bool
+    first = h.has_firmware && outputs
+
+    then_awaited : IsRunTo is_of_firmware 2 (steps_entered old SafeOp ms n ++ to_one 2 (Await first ∷ []) ms n) (manager_at ms n) (manager_at (slice_set entered 2 (awaiting (manager_at entered 2) first)) n)
+    then_awaited =
+        then_run is_of_firmware 1 1 (steps_entered old SafeOp ms n) (to_one 2 (Await first ∷ []) ms n) (manager_at ms n) (manager_at entered n) _ (safeop_run old ms n)
+        (subst (λ (os : List Operation). IsRunTo is_of_firmware 1 os (manager_at entered n) (manager_at (slice_set entered 2 (awaiting (manager_at entered 2) first)) n))
+        (as_long 2 (Await first ∷ []) 0 entered ms n (zeros_long (is_preop old) ms)) (awaited_run first entered n))
+
+    by : (b : Bool) → IsRunTo is_of_firmware 2 (steps_entered old SafeOp ms n ++ (if not b then to_one 2 (Await first ∷ []) ms n else [])) (manager_at ms n)
+        (let xs : List SyncManager = if not b then slice_set entered 2 (awaiting (manager_at entered 2) first) else entered in manager_at xs n)
+    by true = followed_by_none is_of_firmware 2 _ _ _ (entered_run old SafeOp ms n)
+    by false = then_awaited
+state_run (Some h) outputs old Op ms n = followed_by_none is_of_firmware 2 _ _ _ (entered_run old Op ms n)
+
 decided_run : (s : SlaveState) → SlaveRuns is_of_firmware 2 (steps_decided s) s (request_decided s)
 unfolding request_decided
-decided_run s = either_slave is_of_firmware 2 s.al.requested (steps_entered s.al.state _ s.managers) s _ (entered_run s.al.state _ s.managers)
+decided_run s =
+    either_slave is_of_firmware 2 s.al.requested (λ n. if is_awaiting s.kind.hardware s then [] else steps_to s (al_decided s.kind.hardware s).state n) s _
+    (by (is_awaiting s.kind.hardware s))
+  where
+    a : Al
+    a = al_decided s.kind.hardware s
+
+    by : (b : Bool) → SlaveRuns is_of_firmware 2 (λ n. if b then [] else steps_to s a.state n) s (if b then s else with_al s a)
+    by true = none_all is_of_firmware 2 s.managers
+    by false = state_run s.kind.hardware (has_outputs s) s.al.state a.state s.managers
 
 same_managers : (s : SlaveState) → (read_finished s).managers ≡ s.managers
 unfolding read_finished

@@ -6,6 +6,7 @@ use Rattle.std.proofs.lemmas.List.{length-replicate, length-map}
 use Rattle.ec_bits.specs.Bits.{within, zeros}
 use Rattle.ec_bits.proofs.BitLaws.{length-overlay}
 use Rattle.ec_bits.proofs.AnyLaws.{if_true, if_false}
+use Rattle.ec_device.specs.declared.hardware.Hardware.{Hardware}
 use Rattle.ec_regs.specs.declared.fmmu.FmmuSettings.{FmmuSettings}
 use Rattle.ec_regs.specs.declared.manager.SyncManagerSettings.{SyncManagerSettings}
 use Rattle.ec_device.specs.declared.slave_type.Pdo.{Pdo}
@@ -44,8 +45,8 @@ no-manager-sound = empty-sound no_manager.settings false
 
 written-sound : (m : SyncManager) (v : List ℕ) → IsManager m → is_set m.settings ≡ true → length v ≡ m.settings.length → IsManager (ring_written m v)
 written-sound m v h set e = elim (cases_Bool (is_mailbox m.settings)) [
-  | inl on ↦ subst IsManager (sym (if_true (is_mailbox m.settings) (record m { mail = Some v }) (record m { buffer = publishing m.buffer v }) on)) (record { published = h.published; draft = h.draft; view = h.view })
-  | inr off ↦ subst IsManager (sym (if_false (is_mailbox m.settings) (record m { mail = Some v }) (record m { buffer = publishing m.buffer v }) off))
+  | inl on ↦ subst IsManager (sym (if_true (is_mailbox m.settings) (record m { mail = Some v }) (record m { buffer = publishing m.buffer v; awaited = false }) on)) (record { published = h.published; draft = h.draft; view = h.view })
+  | inr off ↦ subst IsManager (sym (if_false (is_mailbox m.settings) (record m { mail = Some v }) (record m { buffer = publishing m.buffer v; awaited = false }) off))
       (record { published = e ∙ sym (buffer_length_set m.settings set off); draft = h.draft; view = h.view })
 ]
 
@@ -69,12 +70,12 @@ after-sound reads writes rt wt own v m len h = elim (cases_Bool (writes && is_wr
     by true = read-sound m h
     by false = h
 
-met-sound : (lower : List SyncManager) (reads writes : Bool) (w : Window) (n : ℕ) (m : SyncManager) → IsManager m → IsManager (physical_manager lower reads writes w n m)
+met-sound : (o : Option Hardware) (lower : List SyncManager) (reads writes : Bool) (w : Window) (n : ℕ) (m : SyncManager) → IsManager m → IsManager (physical_manager o lower reads writes w n m)
 unfolding physical_manager
-met-sound lower reads writes w n m h = by (writes && is_configured w n)
+met-sound o lower reads writes w n m h = by (writes && is_configured o w n)
   where
-    by : (b : Bool) → (let x : SyncManager = if b then empty_manager (settings_written w n m) m.locked else manager_after reads writes (touches w) (touches w) (is_ungoverned lower) (physical_value lower w) m in IsManager x)
-    by true = empty-sound (settings_written w n m) m.locked
+    by : (b : Bool) → (let x : SyncManager = if b then empty_manager (settings_written o w n m) m.locked else manager_after reads writes (touches w) (touches w) (is_ungoverned lower) (physical_value lower w) m in IsManager x)
+    by true = empty-sound (settings_written o w n m) m.locked
     by false = after-sound reads writes (touches w) (touches w) (is_ungoverned lower) (physical_value lower w) m (λ a k. length-updated 0 (zeros k) _ ∙ length-replicate {A = ℕ} k 0) h
 
 -- ---- all of a slave
@@ -85,10 +86,10 @@ AreSound ms = (n : ℕ) → IsManager (manager_at ms n)
 rest-sound : (m : SyncManager) (ms : List SyncManager) → AreSound (m ∷ ms) → AreSound ms
 rest-sound m ms h n = h (suc n)
 
-pub all-met-sound : (lower ms : List SyncManager) (reads writes : Bool) (w : Window) (n : ℕ) → AreSound ms → AreSound (physical_managers lower reads writes w n ms)
-all-met-sound lower [] reads writes w n h k = h k
-all-met-sound lower (m ∷ ms) reads writes w n h zero = met-sound lower reads writes w n m (h zero)
-all-met-sound lower (m ∷ ms) reads writes w n h (suc k) = all-met-sound (lower ++ m ∷ []) ms reads writes w (n + 1) (rest-sound m ms h) k
+pub all-met-sound : (o : Option Hardware) (lower ms : List SyncManager) (reads writes : Bool) (w : Window) (n : ℕ) → AreSound ms → AreSound (physical_managers o lower reads writes w n ms)
+all-met-sound o lower [] reads writes w n h k = h k
+all-met-sound o lower (m ∷ ms) reads writes w n h zero = met-sound o lower reads writes w n m (h zero)
+all-met-sound o lower (m ∷ ms) reads writes w n h (suc k) = all-met-sound o (lower ++ m ∷ []) ms reads writes w (n + 1) (rest-sound m ms h) k
 
 pub all-exchanged-sound : (lower ms : List SyncManager) (reading writing : Bool) (fs : List FmmuSettings) (p : LogicalSpan) (bytes : List ℕ) → AreSound ms → AreSound (logical_managers lower reading writing fs p bytes ms)
 all-exchanged-sound lower [] reading writing fs p bytes h k = h k
@@ -96,9 +97,9 @@ all-exchanged-sound lower (m ∷ ms) reading writing fs p bytes h zero =
     after-sound reading writing (touched_by_reading fs p) (touched_by_writing fs p) (is_ungoverned lower) (logical_value lower fs p bytes) m (λ a k. length-overlay (zeros k) _ ∙ length-replicate {A = ℕ} k 0) (h zero)
 all-exchanged-sound lower (m ∷ ms) reading writing fs p bytes h (suc k) = all-exchanged-sound (lower ++ m ∷ []) ms reading writing fs p bytes (rest-sound m ms h) k
 
-pub length-physical_managers : (lower : List SyncManager) (reads writes : Bool) (w : Window) (n : ℕ) (ms : List SyncManager) → length (physical_managers lower reads writes w n ms) ≡ length ms
-length-physical_managers lower reads writes w n [] = refl
-length-physical_managers lower reads writes w n (m ∷ ms) = ap suc (length-physical_managers (lower ++ m ∷ []) reads writes w (n + 1) ms)
+pub length-physical_managers : (o : Option Hardware) (lower : List SyncManager) (reads writes : Bool) (w : Window) (n : ℕ) (ms : List SyncManager) → length (physical_managers o lower reads writes w n ms) ≡ length ms
+length-physical_managers o lower reads writes w n [] = refl
+length-physical_managers o lower reads writes w n (m ∷ ms) = ap suc (length-physical_managers o (lower ++ m ∷ []) reads writes w (n + 1) ms)
 
 -- the managers of four, one by one
 pub four-sound : (ms : List SyncManager) → length ms ≡ 4 → (a b c d : SyncManager)
@@ -169,9 +170,9 @@ written-keeps p from bytes h l = by p.busy
 
 -- ---- a datagram
 
-memory-long : (b : Bool) (ms : List SyncManager) (w : Window) (memory : List ℕ) → length (if b then memory_written ms w memory else memory) ≡ length memory
-memory-long true ms w memory = length-updated 0 memory _
-memory-long false ms w memory = refl
+memory-long : (b : Bool) (o : Option Hardware) (ms : List SyncManager) (w : Window) (memory : List ℕ) → length (if b then memory_written o ms w memory else memory) ≡ length memory
+memory-long true o ms w memory = length-updated 0 memory _
+memory-long false o ms w memory = refl
 
 sii-keeps : (b : Bool) (p : Sii) (w : Window) → AreBytes w.bytes → p.address < 2 ^ 32
     → (let x : Sii = if b then written p w.from w.bytes else p in (x.image ≡ p.image) × (x.address < 2 ^ 32))
@@ -183,9 +184,9 @@ unfolding physical_after
 after-is s reads writes w b h =
     let k = sii-keeps writes s.sii w b h.word_address in
     record {
-      memory = memory-long writes s.managers w s.memory ∙ h.memory;
-      managers = length-physical_managers [] reads writes w 0 s.managers ∙ h.managers;
-      each_manager = all-met-sound [] s.managers reads writes w 0 h.each_manager;
+      memory = memory-long writes s.kind.hardware s.managers w s.memory ∙ h.memory;
+      managers = length-physical_managers s.kind.hardware [] reads writes w 0 s.managers ∙ h.managers;
+      each_manager = all-met-sound s.kind.hardware [] s.managers reads writes w 0 h.each_manager;
       image = k.0 ∙ h.image;
       word_address = k.1;
       out_slots = h.out_slots;

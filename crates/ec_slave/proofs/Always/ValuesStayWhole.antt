@@ -6,10 +6,12 @@ use Rattle.ec_bits.specs.Bits.{zeros}
 use Rattle.ec_frame.specs.declared.command.Command.{Command}
 use Rattle.ec_frame.specs.declared.command.Command.TheVariants.{Nop, Aprd, Apwr, Aprw, Fprd, Fpwr, Fprw, Brd, Bwr, Brw, Lrd, Lwr, Lrw, Armw, Frmw}
 use Rattle.ec_frame.specs.Datagram.{Datagram, adp_of}
+use Rattle.ec_device.specs.declared.hardware.Hardware.{Hardware}
 use Rattle.ec_sync.specs.Buffer.{Buffer, Got, drafted, draft_next, app_written, view_next, app_read}
-use Rattle.ec_sync.specs.SyncManager.{SyncManager, buffer_length, may_app_put, may_app_get, app_put, app_got, after_get, message_in, message_taken, may_put_message, message_put, padded, zeros_published}
+use Rattle.ec_sync.specs.SyncManager.{SyncManager, awaiting, buffer_length, may_app_put, may_app_get, app_put, app_got, after_get, message_in, message_taken, may_put_message, message_put, padded, zeros_published}
 use Rattle.ec_sync.specs.Sound.{IsManager}
 use Rattle.ec_al.specs.Al as al
+use Rattle.ec_al.specs.Al.{Al}
 use Rattle.ec_al.specs.declared.state.State.{State}
 use Rattle.ec_coe.specs.declared.message.Message.{Message}
 use Rattle.ec_slave.specs.Roles.{role_of, is_reading, is_writing}
@@ -18,10 +20,10 @@ use Rattle.ec_slave.specs.Physical.{Window, physical_after, physical_met}
 use Rattle.ec_slave.specs.Logical.{meets_logically}
 use Rattle.ec_slave.specs.Meeting.{window_of, meets, meets_by, meets_physically, slave_met}
 use Rattle.ec_slave.specs.Application.{input_put, output_got, output_taken, with_manager, is_running}
-use Rattle.ec_slave.specs.Checking.{control_word, checks_of}
-use Rattle.ec_slave.specs.Serving.{served, request_decided, read_finished, message_served, reply_given, request_in, refusal_in, refused, bytes_to, is_served, managers_entered, unlocked_empty, is_init, is_safeop, is_preop, with_al}
+use Rattle.ec_slave.specs.Serving.{served, al_decided, has_outputs, outputs_awaited, request_decided, read_finished, message_served, reply_given, request_in, refusal_in, refused, bytes_to, is_served, managers_entered, unlocked_empty, is_init, is_safeop, is_preop, with_al}
 use Rattle.ec_slave.specs.Faulting.{faulted, locked_empty}
 use Rattle.ec_slave.specs.Interface.{AreWhole, ValuesStayWhole}
+use Rattle.ec_slave.proofs.FirmwareRuns.RestsQuietly.{decided-if, decides}
 use Rattle.ec_slave.proofs.Always.MetIsSlave.{AreSound, empty-sound, no-manager-sound, all-met-sound, all-exchanged-sound}
 
 none_some : {X : Type 0} (x : X) → None ≡ Some x → ⊥
@@ -41,7 +43,7 @@ set-sound (x ∷ ms) (suc k) m h f (suc n) = set-sound ms k m (λ j. h (suc j)) 
 
 accessed : (s : SlaveState) (reads writes : Bool) (w : Window) → AreWhole s → AreWhole (physical_after s reads writes w)
 unfolding physical_after
-accessed s reads writes w h = all-met-sound [] s.managers reads writes w 0 h
+accessed s reads writes w h = all-met-sound s.kind.hardware [] s.managers reads writes w 0 h
 
 physically : (s : SlaveState) (d : Datagram) → AreWhole s → AreWhole (meets_physically s d).slave
 unfolding physical_met
@@ -203,12 +205,22 @@ entered-sound old new ms h = by (is_init new && not (is_init old)) (is_safeop ne
     by false true = set-sound ms 3 (zeros_published (manager_at ms 3)) h (zeros-sound (manager_at ms 3) (h 3))
     by false false = h
 
-decided-whole : (s : SlaveState) → AreWhole s → AreWhole (request_decided s)
-unfolding request_decided
-decided-whole s h = by s.al.requested
+awaited-sound : (o : Option Hardware) (outputs : Bool) (old new : State) (ms : List SyncManager) → AreSound ms → AreSound (outputs_awaited o outputs old new ms)
+awaited-sound None outputs old new ms h = h
+awaited-sound (Some x) outputs old new ms h = by (is_safeop new && not (is_safeop old))
   where
-    by : (b : Bool) → (let x : SlaveState = if b then with_al s (al.decided s.al (control_word s) (checks_of s)) else s in AreWhole x)
-    by true = entered-sound s.al.state (al.decided s.al (control_word s) (checks_of s)).state s.managers h
+    by : (b : Bool) → (let xs : List SyncManager = if b then slice_set ms 2 (awaiting (manager_at ms 2) (x.has_firmware && outputs)) else ms in AreSound xs)
+    by true = set-sound ms 2 (awaiting (manager_at ms 2) (x.has_firmware && outputs)) h (let m = h 2 in record { published = m.published; draft = m.draft; view = m.view })
+    by false = h
+
+decided-whole : (s : SlaveState) → AreWhole s → AreWhole (request_decided s)
+decided-whole s h = subst AreWhole (sym (decided-if s)) (by (decides s))
+  where
+    a : Al
+    a = al_decided s.kind.hardware s
+
+    by : (b : Bool) → (let x : SlaveState = if b then with_al s a else s in AreWhole x)
+    by true = awaited-sound s.kind.hardware (has_outputs s) s.al.state a.state (managers_entered s.al.state a.state s.managers) (entered-sound s.al.state a.state s.managers h)
     by false = h
 
 finished-whole : (s : SlaveState) → AreWhole s → AreWhole (read_finished s)

@@ -1,12 +1,14 @@
 -- What a firmware step leaves as it is.
-use Rattle.std.proofs.Common.{ℕ, zero, suc, ◌+◌, ◌*◌, ◌≡◌, ◌&&◌, not, Bool, true, false, Option, Some, None, refl, sym, ◌∙◌, ap, if◌then◌else◌, List, [], ◌∷◌, map, get_or, slice_set, is_some}
+use Rattle.std.proofs.Common.{ℕ, zero, suc, ◌+◌, ◌*◌, ◌≡◌, ◌&&◌, not, Bool, true, false, Option, Some, None, refl, sym, ◌∙◌, ap, if◌then◌else◌, List, [], ◌∷◌, map, get_or, slice_set, is_some, subst}
 use Rattle.ec_bits.proofs.AnyLaws.{if_false}
+use Rattle.ec_device.specs.declared.hardware.Hardware.{Hardware}
+use Rattle.ec_device.specs.Types.{SlaveKind}
 use Rattle.ec_sync.specs.Buffer.{Buffer}
 use Rattle.ec_regs.specs.declared.manager.SyncManagerSettings.{SyncManagerSettings}
-use Rattle.ec_sync.specs.SyncManager.{SyncManager, message_taken, message_put, message_in, zeros_published}
+use Rattle.ec_sync.specs.SyncManager.{SyncManager, awaiting, message_taken, message_put, message_in, zeros_published}
 use Rattle.ec_al.specs.declared.state.State.{State}
 use Rattle.ec_al.specs.declared.state.State.TheVariants.{Init, PreOp, SafeOp, Op}
-use Rattle.ec_al.specs.Al.{Al, decided, stepped}
+use Rattle.ec_al.specs.Al.{Al}
 use Rattle.ec_sii.specs.Port as port
 use Rattle.ec_sii.specs.Port.{Sii}
 use Rattle.ec_coe.specs.declared.message.Message.{Message}
@@ -15,8 +17,7 @@ use Rattle.ec_coe.specs.Laws.{KeepsAssignments}
 use Rattle.ec_coe.proofs.AssignmentsStay.{assignments_kept}
 use Rattle.ec_slave.specs.State.{SlaveState, manager_at, fmmus_of}
 use Rattle.ec_slave.specs.Application.{is_running, with_manager}
-use Rattle.ec_slave.specs.Checking.{checks_of, control_word}
-use Rattle.ec_slave.specs.Serving.{served, request_decided, read_finished, message_served, with_al, managers_entered, is_served, reply_given, request_in, refusal_in, bytes_to, is_preop, dictionary_of, reply_counter, unlocked_empty, is_init, is_safeop, has_mailbox, takes_reply}
+use Rattle.ec_slave.specs.Serving.{served, request_decided, read_finished, message_served, al_decided, has_outputs, is_awaiting, outputs_awaited, with_al, managers_entered, is_served, reply_given, request_in, refusal_in, bytes_to, is_preop, dictionary_of, reply_counter, unlocked_empty, is_init, is_safeop, has_mailbox, takes_reply}
 use Rattle.ec_slave.specs.FirmwareLaws.{RestsQuietly, ServesKeepSettings, ServesKeepBuffers}
 
 -- ---- nothing waits
@@ -91,6 +92,22 @@ entered-settings old new ms n =
     either-managers (is_init new && not (is_init old)) (map unlocked_empty ms) _ _ n (map-alike ms n)
     (either-managers (is_safeop new && is_preop old) (slice_set ms 3 (zeros_published (manager_at ms 3))) ms _ n
     (set-alike (λ (m : SyncManager). m.settings) ms 3 (zeros_published (manager_at ms 3)) refl n) refl)
+
+awaited-settings : (o : Option Hardware) (outputs : Bool) (old new : State) (ms : List SyncManager) (n : ℕ) → (manager_at (outputs_awaited o outputs old new ms) n).settings ≡ (manager_at ms n).settings
+awaited-settings None outputs old new ms n = refl
+awaited-settings (Some h) outputs old new ms n =
+    either-managers (is_safeop new && not (is_safeop old)) (slice_set ms 2 (awaiting (manager_at ms 2) (h.has_firmware && outputs))) ms _ n
+    (set-alike (λ (m : SyncManager). m.settings) ms 2 (awaiting (manager_at ms 2) (h.has_firmware && outputs)) refl n) refl
+
+either-buffers : (b : Bool) (xs ys : List SyncManager) (w : Buffer) (n : ℕ) → (manager_at xs n).buffer ≡ w → (manager_at ys n).buffer ≡ w → (manager_at (if b then xs else ys) n).buffer ≡ w
+either-buffers true xs ys w n p q = p
+either-buffers false xs ys w n p q = q
+
+awaited-buffers : (o : Option Hardware) (outputs : Bool) (old new : State) (ms : List SyncManager) (n : ℕ) → (manager_at (outputs_awaited o outputs old new ms) n).buffer ≡ (manager_at ms n).buffer
+awaited-buffers None outputs old new ms n = refl
+awaited-buffers (Some h) outputs old new ms n =
+    either-buffers (is_safeop new && not (is_safeop old)) (slice_set ms 2 (awaiting (manager_at ms 2) (h.has_firmware && outputs))) ms _ n
+    (set-alike (λ (m : SyncManager). m.buffer) ms 2 (awaiting (manager_at ms 2) (h.has_firmware && outputs)) refl n) refl
 
 entered-running : (old new : State) (ms : List SyncManager) → is_running old ≡ true → is_running new ≡ true → managers_entered old new ms ≡ ms
 entered-running Init new ms a b = absurd (let f : false ≡ true = a in cc)
@@ -170,21 +187,32 @@ message-kept s = either-kept (is_served s) s _ (replied-kept s (refusal_in s) (r
 
 -- ---- the AL request
 
+-- whether a request is decided now
+abbrev pub decides : SlaveState → Bool
+decides s = s.al.requested && not (is_awaiting s.kind.hardware s)
+
+nested-if : {X : Type 0} (b c : Bool) (x y : X) → (if b then (if c then y else x) else y) ≡ (if b && not c then x else y)
+nested-if true true x y = refl
+nested-if true false x y = refl
+nested-if false c x y = refl
+
+pub decided-if : (s : SlaveState) → request_decided s ≡ (if decides s then with_al s (al_decided s.kind.hardware s) else s)
+unfolding request_decided
+decided-if s = nested-if s.al.requested (is_awaiting s.kind.hardware s) (with_al s (al_decided s.kind.hardware s)) s
+
 either-al : (b : Bool) (s : SlaveState) (a : Al) → (if b then with_al s a else s).al ≡ (if b then a else s.al)
 either-al true s a = refl
 either-al false s a = refl
 
-pub decided-al : (s : SlaveState) → (request_decided s).al ≡ stepped s.al (control_word s) (checks_of s)
-unfolding request_decided
-decided-al s = either-al s.al.requested s _
+pub decided-al : (s : SlaveState) → (request_decided s).al ≡ (if decides s then al_decided s.kind.hardware s else s.al)
+decided-al s = ap (λ (t : SlaveState). t.al) (decided-if s) ∙ either-al (decides s) s _
 
 either-memory : (b : Bool) (s : SlaveState) (a : Al) → (if b then with_al s a else s).memory ≡ s.memory
 either-memory true s a = refl
 either-memory false s a = refl
 
 decided-memory : (s : SlaveState) → (request_decided s).memory ≡ s.memory
-unfolding request_decided
-decided-memory s = either-memory s.al.requested s _
+decided-memory s = ap (λ (t : SlaveState). t.memory) (decided-if s) ∙ either-memory (decides s) s _
 
 pub record Same (s t : SlaveState) : Type 0 where
   pub kind : t.kind ≡ s.kind
@@ -197,24 +225,28 @@ either-same true s a = record { kind = refl; identity = refl; outs = refl; ins =
 either-same false s a = record { kind = refl; identity = refl; outs = refl; ins = refl }
 
 pub decided-same : (s : SlaveState) → Same s (request_decided s)
-unfolding request_decided
-decided-same s = either-same s.al.requested s _
+decided-same s = subst (λ (t : SlaveState). Same s t) (sym (decided-if s)) (either-same (decides s) s _)
 
 settings-decided : (b : Bool) (s : SlaveState) (a : Al) (n : ℕ) → (manager_at (if b then with_al s a else s).managers n).settings ≡ (manager_at s.managers n).settings
-settings-decided true s a n = entered-settings s.al.state a.state s.managers n
+settings-decided true s a n =
+    awaited-settings s.kind.hardware (has_outputs s) s.al.state a.state (managers_entered s.al.state a.state s.managers) n
+    ∙ entered-settings s.al.state a.state s.managers n
 settings-decided false s a n = refl
 
 decided-settings : (s : SlaveState) (n : ℕ) → (manager_at (request_decided s).managers n).settings ≡ (manager_at s.managers n).settings
-unfolding request_decided
-decided-settings s n = settings-decided s.al.requested s _ n
+decided-settings s n = ap (λ (t : SlaveState). (manager_at t.managers n).settings) (decided-if s) ∙ settings-decided (decides s) s _ n
 
-managers-decided : (b : Bool) (s : SlaveState) (a : Al) → is_running s.al.state ≡ true → is_running (if b then with_al s a else s).al.state ≡ true → (if b then with_al s a else s).managers ≡ s.managers
-managers-decided true s a r h = entered-running s.al.state a.state s.managers r h
-managers-decided false s a r h = refl
+buffers-decided : (b : Bool) (s : SlaveState) (a : Al) (n : ℕ) → is_running s.al.state ≡ true → is_running (if b then with_al s a else s).al.state ≡ true
+    → (manager_at (if b then with_al s a else s).managers n).buffer ≡ (manager_at s.managers n).buffer
+buffers-decided true s a n r h =
+    awaited-buffers s.kind.hardware (has_outputs s) s.al.state a.state (managers_entered s.al.state a.state s.managers) n
+    ∙ ap (λ (ms : List SyncManager). (manager_at ms n).buffer) (entered-running s.al.state a.state s.managers r h)
+buffers-decided false s a n r h = refl
 
-decided-managers : (s : SlaveState) → is_running s.al.state ≡ true → is_running (request_decided s).al.state ≡ true → (request_decided s).managers ≡ s.managers
-unfolding request_decided
-decided-managers s r h = managers-decided s.al.requested s _ r h
+decided-buffers : (s : SlaveState) (n : ℕ) → is_running s.al.state ≡ true → is_running (request_decided s).al.state ≡ true → (manager_at (request_decided s).managers n).buffer ≡ (manager_at s.managers n).buffer
+decided-buffers s n r h =
+    ap (λ (t : SlaveState). (manager_at t.managers n).buffer) (decided-if s)
+    ∙ buffers-decided (decides s) s _ n r (ap (λ (t : SlaveState). is_running t.al.state) (sym (decided-if s)) ∙ h)
 
 -- ---- all of it
 
@@ -229,8 +261,7 @@ served-al s = (message-kept (read_finished (request_decided s))).al ∙ (read-ma
 
 -- an AL request changes no data link register
 decided-link : (s : SlaveState) → (request_decided s).link ≡ s.link
-unfolding request_decided
-decided-link s = by s.al.requested (with_al s (decided s.al (control_word s) (checks_of s))) refl
+decided-link s = ap (λ (t : SlaveState). t.link) (decided-if s) ∙ by (decides s) (with_al s (al_decided s.kind.hardware s)) refl
   where
     by : (b : Bool) (t : SlaveState) → t.link ≡ s.link → (let x : SlaveState = if b then t else s in x.link ≡ s.link)
     by true t h = h
@@ -244,12 +275,13 @@ settings_kept s =
     let k = message-kept r in
     let q = read-managers d in
     let memory : (message_served r).memory ≡ s.memory = k.memory ∙ (q.2 ∙ decided-memory s) in
+    let kind : (message_served r).kind ≡ s.kind = k.kind ∙ (q.3 ∙ (decided-same s).kind) in
     record {
       memory = memory;
       station = ap (λ (x : List ℕ). get_or x 0x0010 0 + 256 * get_or x 0x0011 0) memory;
-      fmmus = ap fmmus_of memory;
+      fmmus = ap (λ (x : SlaveKind). fmmus_of x.hardware (message_served r).memory) kind ∙ ap (fmmus_of s.kind.hardware) memory;
       settings = λ n. k.settings n ∙ (ap (λ (ms : List SyncManager). (manager_at ms n).settings) q.0 ∙ decided-settings s n);
-      kind = k.kind ∙ (q.3 ∙ (decided-same s).kind);
+      kind = kind;
       identity = k.identity ∙ (q.4 ∙ (decided-same s).identity);
       link = k.link ∙ (q.5 ∙ decided-link s);
     }
@@ -260,4 +292,4 @@ buffers_kept s before after n =
     let d : SlaveState = request_decided s in
     let running : is_running d.al.state ≡ true = ap (λ (a : Al). is_running a.state) (sym (served-al s)) ∙ after in
     (message-kept (read_finished d)).buffers n
-    ∙ ap (λ (ms : List SyncManager). (manager_at ms n).buffer) ((read-managers d).0 ∙ decided-managers s before running)
+    ∙ (ap (λ (ms : List SyncManager). (manager_at ms n).buffer) (read-managers d).0 ∙ decided-buffers s n before running)

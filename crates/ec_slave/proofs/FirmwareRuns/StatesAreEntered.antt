@@ -1,8 +1,12 @@
 -- Which states a firmware step enters, and what it checks before.
-use Rattle.std.proofs.Common.{ℕ, ◌≡◌, ◌≢◌, ◌&&◌, not, Bool, true, false, Result, Ok, Err, refl, sym, ◌∙◌, ap, arith, if◌then◌else◌}
+use Rattle.std.proofs.Common.{ℕ, ◌≡◌, ◌≢◌, ◌&&◌, not, Bool, true, false, Result, Ok, Err, refl, sym, ◌∙◌, ap, arith, if◌then◌else◌, Option, Some, None}
+use Rattle.std.proofs.lemmas.Bool.{and_parts}
+use Rattle.ec_bits.proofs.AnyLaws.{if_true}
+use Rattle.ec_device.specs.declared.hardware.Hardware.{Hardware}
+use Rattle.ec_device.specs.Hardware.{has_firmware}
 use Rattle.ec_al.specs.States.{state_number}
 use Rattle.ec_al.specs.Transitions.{requested_number, requested_by, acknowledges, answer}
-use Rattle.ec_al.specs.Al.{Al, stepped, ignored, answered}
+use Rattle.ec_al.specs.Al.{Al, decided, ignored, answered}
 use Rattle.ec_al.specs.declared.state.State.{State}
 use Rattle.ec_al.specs.declared.state.State.TheVariants.{Init, PreOp, SafeOp, Op}
 use Rattle.ec_al.specs.declared.status_code.StatusCode.{StatusCode}
@@ -11,9 +15,9 @@ use Rattle.ec_al.specs.declared.transition.Requested.TheVariants.{To, Bootstrap,
 use Rattle.ec_al.specs.declared.transition.Checks.{Checks}
 use Rattle.ec_slave.specs.State.{SlaveState}
 use Rattle.ec_slave.specs.Checking.{checks_of, control_word}
-use Rattle.ec_slave.specs.Serving.{served, request_decided, replies_entered, reply_counter, with_al}
+use Rattle.ec_slave.specs.Serving.{served, al_decided, replies_entered, reply_counter, with_al}
 use Rattle.ec_slave.specs.FirmwareLaws.{StatesAreEntered, FirstReplyIsOne}
-use Rattle.ec_slave.proofs.FirmwareRuns.RestsQuietly.{served-al, decided-al}
+use Rattle.ec_slave.proofs.FirmwareRuns.RestsQuietly.{served-al, decided-al, decided-if, decides}
 
 -- another state was granted, by the request that waited
 changed-by : (b d : Bool) (al : Al) (r : Result State StatusCode) (s : State) → al.state ≢ s → (if b then (if d then ignored al else answered al r) else al).state ≡ s → (b ≡ true) × (r ≡ Ok s)
@@ -22,8 +26,8 @@ changed-by true false al (Err code) s other now = absurd (other now)
 changed-by true true al r s other now = absurd (other now)
 changed-by false d al r s other now = absurd (other now)
 
-granted : (al : Al) (control : ℕ) (checks : Checks) (s : State) → al.state ≢ s → (stepped al control checks).state ≡ s → (al.requested ≡ true) × (answer al.state (requested_by control) checks ≡ Ok s)
-granted al control checks s other now = changed-by al.requested (al.error && not (acknowledges control)) al (answer al.state (requested_by control) checks) s other now
+pub granted : (b : Bool) (al : Al) (control : ℕ) (checks : Checks) (s : State) → al.state ≢ s → (if b then decided al control checks else al).state ≡ s → (b ≡ true) × (answer al.state (requested_by control) checks ≡ Ok s)
+granted b al control checks s other now = changed-by b (al.error && not (acknowledges control)) al (answer al.state (requested_by control) checks) s other now
 
 both-passed : (a b : Bool) (x y : StatusCode) → (if a then (if b then Ok SafeOp else Err x) else Err y) ≡ Ok SafeOp → (a ≡ true) × (b ≡ true)
 both-passed true true x y e = (refl, refl)
@@ -50,7 +54,7 @@ preop-answer (To Op) checks e = cc
 preop-answer Bootstrap checks e = cc
 preop-answer Unknown checks e = cc
 
-op-answer : (state : State) (wanted : Requested) (checks : Checks) → state ≢ Op → answer state wanted checks ≡ Ok Op → (state ≡ SafeOp) × (wanted ≡ To Op)
+pub op-answer : (state : State) (wanted : Requested) (checks : Checks) → state ≢ Op → answer state wanted checks ≡ Ok Op → (state ≡ SafeOp) × (wanted ≡ To Op)
 op-answer Init (To Init) checks below entered = cc
 op-answer Init (To PreOp) checks below entered = grind arith
 op-answer Init (To SafeOp) checks below entered = cc
@@ -68,23 +72,32 @@ op-answer Init Bootstrap checks below entered = cc
 op-answer state Bootstrap checks below entered = cc
 op-answer state Unknown checks below entered = cc
 
-asked-op : (control : ℕ) → requested_by control ≡ To Op → requested_number control ≡ state_number Op
+pub asked-op : (control : ℕ) → requested_by control ≡ To Op → requested_number control ≡ state_number Op
 asked-op control e = grind arith
 
-served-state : (s : SlaveState) → (served s).al.state ≡ (stepped s.al (control_word s) (checks_of s)).state
-served-state s = ap (λ (a : Al). a.state) (served-al s ∙ decided-al s)
+-- firmware decides by the checks
+pub by-firmware : (o : Option Hardware) (s : SlaveState) → has_firmware o ≡ true → al_decided o s ≡ decided s.al (control_word s) (checks_of s)
+by-firmware None s e = refl
+by-firmware (Some h) s e = if_true _ _ _ e
+
+pub served-state : (s : SlaveState) → has_firmware s.kind.hardware ≡ true → (served s).al.state ≡ (if decides s then decided s.al (control_word s) (checks_of s) else s.al).state
+served-state s f = ap (λ (a : Al). a.state) (served-al s ∙ (decided-al s ∙ ap (λ (a : Al). if decides s then a else s.al) (by-firmware s.kind.hardware s f)))
+
+-- a request that is decided waits
+pub waits : (s : SlaveState) → decides s ≡ true → s.al.requested ≡ true
+waits s d = (and_parts s.al.requested _ d).0
 
 pub states_entered : StatesAreEntered
-states_entered s = (
+states_entered s f = (
   λ there other.
-      let g = granted s.al (control_word s) (checks_of s) Op other (sym (served-state s) ∙ there) in
+      let g = granted (decides s) s.al (control_word s) (checks_of s) Op other (sym (served-state s f) ∙ there) in
       let w = op-answer s.al.state (requested_by (control_word s)) (checks_of s) other g.1 in
-      record { from = w.0; waits = g.0; asked = asked-op (control_word s) w.1 },
+      record { from = w.0; waits = waits s g.0; asked = asked-op (control_word s) w.1 },
   λ there was.
-      let g = granted s.al (control_word s) (checks_of s) SafeOp (λ e. let f : PreOp ≡ SafeOp = sym was ∙ e in cc) (sym (served-state s) ∙ there) in
+      let g = granted (decides s) s.al (control_word s) (checks_of s) SafeOp (λ e. let g : PreOp ≡ SafeOp = sym was ∙ e in cc) (sym (served-state s f) ∙ there) in
       safeop-answer (requested_by (control_word s)) (checks_of s) (sym (ap (λ (x : State). answer x (requested_by (control_word s)) (checks_of s)) was) ∙ g.1),
   λ there was.
-      let g = granted s.al (control_word s) (checks_of s) PreOp (λ e. let f : Init ≡ PreOp = sym was ∙ e in cc) (sym (served-state s) ∙ there) in
+      let g = granted (decides s) s.al (control_word s) (checks_of s) PreOp (λ e. let g : Init ≡ PreOp = sym was ∙ e in cc) (sym (served-state s f) ∙ there) in
       preop-answer (requested_by (control_word s)) (checks_of s) (sym (ap (λ (x : State). answer x (requested_by (control_word s)) (checks_of s)) was) ∙ g.1),
 )
 
@@ -93,5 +106,6 @@ first-by true s a was now = ap (λ (x : State). reply_counter (replies_entered x
 first-by false s a was now = let f : Init ≡ PreOp = sym was ∙ now in cc
 
 pub first_is_one : FirstReplyIsOne
-unfolding request_decided
-first_is_one s was now = first-by s.al.requested s _ was now
+first_is_one s was now =
+    ap (λ (t : SlaveState). reply_counter t.replies) (decided-if s)
+    ∙ first-by (decides s) s (al_decided s.kind.hardware s) was (ap (λ (t : SlaveState). t.al.state) (sym (decided-if s)) ∙ now)

@@ -1,12 +1,15 @@
 -- The parts of a firmware step, and what it settles.
 use Rattle.std.proofs.Common.{ℕ, zero, suc, ◌%◌, ◌<◌, ◌≤◌, ◌≡◌, ◌==◌, ◌⊎◌, ◌&&◌, not, Bool, true, false, Option, Some, None, Result, Ok, Err, refl, sym, ◌∙◌, ap, subst, inl, inr, arith, if◌then◌else◌, List, [], ◌∷◌, length, set, nat_le, is_some, length-set, get_or-set_same, get_or-set_other}
-use Rattle.std.proofs.lemmas.Bool.{cases_Bool, and_parts, and_from, and_left, and_right, le-leb}
+use Rattle.std.proofs.lemmas.Bool.{false≢true, cases_Bool, and_parts, and_from, and_left, and_right, le-leb}
 use Rattle.ec_bits.proofs.AnyLaws.{if_true, if_false, if_none}
+use Rattle.ec_device.specs.declared.hardware.Hardware.{Hardware}
 use Rattle.ec_regs.specs.Managers.{is_mailbox, is_master_read, is_master_written}
 use Rattle.ec_sync.specs.SyncManager.{SyncManager, no_manager, is_enabled, message_in, message_taken, message_put, may_put_message, padded}
 use Rattle.ec_al.specs.declared.state.State.{State}
 use Rattle.ec_al.specs.declared.status_code.StatusCode.{StatusCode}
 use Rattle.ec_al.specs.declared.transition.Checks.{Checks}
+use Rattle.ec_al.specs.declared.transition.Requested.{Requested}
+use Rattle.ec_al.specs.declared.transition.Requested.TheVariants.{To, Bootstrap, Unknown}
 use Rattle.ec_al.specs.Transitions.{answer, requested_by, acknowledges}
 use Rattle.ec_al.specs.Al.{Al}
 use Rattle.ec_al.specs.Al as al
@@ -21,9 +24,9 @@ use Rattle.ec_coe.proofs.Names.{replies_fit}
 use Rattle.ec_slave.specs.State.{SlaveState, manager_at}
 use Rattle.ec_slave.specs.Application.{with_manager}
 use Rattle.ec_slave.specs.Checking.{control_word, checks_of}
-use Rattle.ec_slave.specs.Serving.{dictionary_of, is_init, is_preop, has_mailbox, takes_reply, is_served, request_in, reply_counter, answer_to, bytes_to, replied, refused, refusal_in, reply_given, request_decided, read_finished, message_served, served}
-use Rattle.ec_slave.specs.Interface.{StepsSettle, StepsHaveThreeParts, RequestsAreDecided, ChecksAreOfManagers, ReadsAreFinished, MessagesKeep, MessagesRest, IsAnswered, RequestsAreAnswered}
-use Rattle.ec_slave.proofs.FirmwareRuns.RestsQuietly.{message-kept, served-al, decided-al}
+use Rattle.ec_slave.specs.Serving.{al_decided, is_awaiting, with_al, dictionary_of, is_init, is_preop, has_mailbox, takes_reply, is_served, request_in, reply_counter, answer_to, bytes_to, replied, refused, refusal_in, reply_given, request_decided, read_finished, message_served, served}
+use Rattle.ec_slave.specs.Interface.{PlainTypesDecide, StepsSettle, StepsHaveThreeParts, RequestsAreDecided, ChecksAreOfManagers, ReadsAreFinished, MessagesKeep, MessagesRest, IsAnswered, RequestsAreAnswered}
+use Rattle.ec_slave.proofs.FirmwareRuns.RestsQuietly.{message-kept, served-al, decided-al, decided-if, decides}
 
 pub three_parts : StepsHaveThreeParts
 unfolding served
@@ -32,8 +35,17 @@ three_parts s = refl
 -- ---- the AL request
 
 pub decided : RequestsAreDecided
-unfolding request_decided
-decided s = record { rests = λ e. if_false _ _ _ e; decides = λ e. if_true _ _ _ e }
+decided s = record {
+  rests = λ e. decided-if s ∙ if_false _ _ _ (and_left s.al.requested _ e);
+  awaits = λ e. decided-if s ∙ if_false _ _ _ (and_right s.al.requested _ (ap not e));
+  decides = λ e f. decided-if s ∙ if_true _ _ _ (and_from _ _ e (ap not f));
+}
+
+pub plain_decides : PlainTypesDecide
+plain_decides s e = record {
+  decides = ap (λ (o : Option Hardware). al_decided o s) e;
+  at_once = ap (λ (o : Option Hardware). is_awaiting o s) e;
+}
 
 pub checks : ChecksAreOfManagers
 unfolding checks_of
@@ -50,12 +62,18 @@ answered-asks : (a : Al) (r : Result State StatusCode) → requested_of (al.answ
 answered-asks a (Ok state) = refl
 answered-asks a (Err code) = refl
 
-stepped-asks : (a : Al) (control : ℕ) (c : Checks) → (al.stepped a control c).requested ≡ false
-stepped-asks a control c = elim (cases_Bool a.requested) [
-  | inl e ↦ ap requested_of (if_true a.requested (al.decided a control c) a e)
-      ∙ either-asks (a.error && not (acknowledges control)) _ _ refl (answered-asks a (answer a.state (requested_by control) c))
-  | inr e ↦ ap requested_of (if_false a.requested (al.decided a control c) a e) ∙ e
-]
+decided-asks : (a : Al) (control : ℕ) (c : Checks) → requested_of (al.decided a control c) ≡ false
+decided-asks a control c = either-asks (a.error && not (acknowledges control)) _ _ refl (answered-asks a (answer a.state (requested_by control) c))
+
+copied-asks : (a : Al) (r : Requested) (flag : Bool) → requested_of (al.copied_to a r flag) ≡ false
+copied-asks a (To state) flag = refl
+copied-asks a Bootstrap flag = refl
+copied-asks a Unknown flag = refl
+
+-- behind a decision no request waits
+pub no-more : (o : Option Hardware) (s : SlaveState) → (al_decided o s).requested ≡ false
+no-more None s = decided-asks s.al (control_word s) (checks_of s)
+no-more (Some h) s = either-asks h.has_firmware _ _ (decided-asks s.al (control_word s) (checks_of s)) (copied-asks s.al (requested_by (control_word s)) (acknowledges (control_word s)))
 
 -- ---- the SII port
 
@@ -129,12 +147,22 @@ either-locked : (b : Bool) (x m : SyncManager) → locked_of x ≡ m.locked → 
 either-locked true x m e = e
 either-locked false x m e = refl
 
+abbrev awaited_of : SyncManager → Bool
+awaited_of m = m.awaited
+
+either-awaited : (b : Bool) (x m : SyncManager) → awaited_of x ≡ m.awaited → awaited_of (if b then x else m) ≡ m.awaited
+either-awaited true x m e = e
+either-awaited false x m e = refl
+
 -- a slave whose message was taken out
 abbrev taken_out : SlaveState → SlaveState
 taken_out s = with_manager s 0 (message_taken (manager_at s.managers 0))
 
 taken-locked : (s : SlaveState) (n : ℕ) → (manager_at (taken_out s).managers n).locked ≡ (manager_at s.managers n).locked
 taken-locked s n = set-alike locked_of s.managers 0 (message_taken (manager_at s.managers 0)) (either-locked (is_some (message_in (manager_at s.managers 0))) (record (manager_at s.managers 0) { mail = None }) (manager_at s.managers 0) refl) n
+
+taken-awaited : (s : SlaveState) (n : ℕ) → (manager_at (taken_out s).managers n).awaited ≡ (manager_at s.managers n).awaited
+taken-awaited s n = set-alike awaited_of s.managers 0 (message_taken (manager_at s.managers 0)) (either-awaited (is_some (message_in (manager_at s.managers 0))) (record (manager_at s.managers 0) { mail = None }) (manager_at s.managers 0) refl) n
 
 taken-others : (s : SlaveState) (n : ℕ) → 2 ≤ n → manager_at (taken_out s).managers n ≡ manager_at s.managers n
 taken-others s n l = get_or-set_other s.managers 0 n (message_taken (manager_at s.managers 0)) no_manager (λ q. omega (arith, q, l))
@@ -157,6 +185,7 @@ record Left (s t : SlaveState) : Type 0 where
   link : t.link ≡ s.link
   count : length t.managers ≡ length s.managers
   locked : (n : ℕ) → (manager_at t.managers n).locked ≡ (manager_at s.managers n).locked
+  awaited : (n : ℕ) → (manager_at t.managers n).awaited ≡ (manager_at s.managers n).awaited
   others : (n : ℕ) → 2 ≤ n → manager_at t.managers n ≡ manager_at s.managers n
   out_slots : length t.outs.slots ≡ length s.outs.slots
   in_slots : length t.ins.slots ≡ length s.ins.slots
@@ -168,6 +197,8 @@ put-left s bytes = record {
   count = length-set (taken_out s).managers 1 (message_put (manager_at (taken_out s).managers 1) bytes) ∙ length-set s.managers 0 (message_taken (manager_at s.managers 0));
   locked = λ n. set-alike locked_of (taken_out s).managers 1 (message_put (manager_at (taken_out s).managers 1) bytes)
       (either-locked (may_put_message (manager_at (taken_out s).managers 1) (length bytes)) _ (manager_at (taken_out s).managers 1) refl) n ∙ taken-locked s n;
+  awaited = λ n. set-alike awaited_of (taken_out s).managers 1 (message_put (manager_at (taken_out s).managers 1) bytes)
+      (either-awaited (may_put_message (manager_at (taken_out s).managers 1) (length bytes)) _ (manager_at (taken_out s).managers 1) refl) n ∙ taken-awaited s n;
   others = λ n l. get_or-set_other (taken_out s).managers 1 n (message_put (manager_at (taken_out s).managers 1) bytes) no_manager (λ e. omega (arith, e, l)) ∙ taken-others s n l;
   out_slots = refl;
   in_slots = refl;
@@ -179,6 +210,7 @@ given-left s None None = record {
   link = refl;
   count = length-set s.managers 0 (message_taken (manager_at s.managers 0));
   locked = taken-locked s;
+  awaited = taken-awaited s;
   others = taken-others s;
   out_slots = refl;
   in_slots = refl;
@@ -187,10 +219,10 @@ given-left s (Some bytes) None = put-left s bytes
 given-left s f (Some r) =
     let p = put-left s (bytes_to (taken_out s) r) in
     let q = answered-slots (is_preop s.al.state) (dictionary_of s) r (reply_counter s.replies) in
-    record { sii = refl; link = refl; count = p.count; locked = p.locked; others = p.others; out_slots = q.outs; in_slots = q.ins }
+    record { sii = refl; link = refl; count = p.count; locked = p.locked; awaited = p.awaited; others = p.others; out_slots = q.outs; in_slots = q.ins }
 
 mailed-left : (s t : SlaveState) → Mailed s t → Left s t
-mailed-left s t (Unmoved n e) = subst (λ (x : SlaveState). Left s x) (sym e) (record { sii = refl; link = refl; count = refl; locked = λ n. refl; others = λ n l. refl; out_slots = refl; in_slots = refl })
+mailed-left s t (Unmoved n e) = subst (λ (x : SlaveState). Left s x) (sym e) (record { sii = refl; link = refl; count = refl; locked = λ n. refl; awaited = λ n. refl; others = λ n l. refl; out_slots = refl; in_slots = refl })
 mailed-left s t (Moved y e) = subst (λ (x : SlaveState). Left s x) (sym e) (given-left s (refusal_in s) (request_in s))
 
 pub messages_keep : MessagesKeep
@@ -207,6 +239,7 @@ messages_keep s =
       count = l.count;
       settings = k.settings;
       locked = l.locked;
+      awaited = l.awaited;
       others = l.others;
       out_slots = l.out_slots;
       in_slots = l.in_slots;
@@ -266,22 +299,35 @@ requests_answered s r l y e room =
 -- ---- all of it
 
 decided-sii : (s : SlaveState) → (request_decided s).sii ≡ s.sii
-decided-sii s = elim (cases_Bool s.al.requested) [
-  | inl e ↦ ap (λ (t : SlaveState). t.sii) ((decided s).decides e)
-  | inr e ↦ ap (λ (t : SlaveState). t.sii) ((decided s).rests e)
-]
+decided-sii s = ap (λ (t : SlaveState). t.sii) (decided-if s) ∙ by (decides s)
+  where
+    by : (b : Bool) → (let x : SlaveState = if b then with_al s (al_decided s.kind.hardware s) else s in x.sii ≡ s.sii)
+    by true = refl
+    by false = refl
 
 served-sii : (s : SlaveState) → (served s).sii ≡ port.stepped s.sii
 served-sii s =
     ap (λ (t : SlaveState). t.sii) (three_parts s) ∙ ((messages_keep (read_finished (request_decided s))).sii
     ∙ (ap (λ (t : SlaveState). t.sii) (finished (request_decided s)).is ∙ ap port.stepped (decided-sii s)))
 
+at-once : (b c : Bool) (x y : Al) → c ≡ false → (if b && not c then x else y) ≡ (if b then x else y)
+at-once true true x y e = absurd (false≢true (sym e))
+at-once true false x y e = refl
+at-once false c x y e = refl
+
+none-waits : (b : Bool) (x y : Al) → y.requested ≡ b → x.requested ≡ false → requested_of (if b then x else y) ≡ false
+none-waits true x y e f = f
+none-waits false x y e f = e
+
 pub settles : StepsSettle
 settles s =
-    let a : (served s).al ≡ al.stepped s.al (control_word s) (checks_of s) = served-al s ∙ decided-al s in
+    let a : (served s).al ≡ (if decides s then al_decided s.kind.hardware s else s.al) = served-al s ∙ decided-al s in
+    let now : is_awaiting s.kind.hardware s ≡ false → (served s).al ≡ (if s.al.requested then al_decided s.kind.hardware s else s.al)
+    = λ e. a ∙ at-once s.al.requested (is_awaiting s.kind.hardware s) (al_decided s.kind.hardware s) s.al e in
     record {
-      al = a;
-      no_request = ap requested_of a ∙ stepped-asks s.al (control_word s) (checks_of s);
+      al = now;
+      no_request = λ e. ap requested_of (now e) ∙ none-waits s.al.requested (al_decided s.kind.hardware s) s.al refl (no-more s.kind.hardware s);
+      awaits = λ e. a ∙ if_false _ _ _ (and_right s.al.requested _ (ap not e));
       sii = served-sii s;
       idle = ap busy_of (served-sii s) ∙ stepped-idle s.sii;
       image = ap image_of (served-sii s) ∙ stepped-image s.sii;

@@ -4,6 +4,7 @@ use Rattle.std.proofs.lemmas.Bool.{and_right}
 use Rattle.ec_bits.specs.Bits.{bit, overlay}
 use Rattle.ec_bits.proofs.AnyLaws.{if_false, if_none, within_below}
 use Rattle.ec_bits.proofs.BitLaws.{overlay_own}
+use Rattle.ec_device.specs.declared.hardware.Hardware.{Hardware}
 use Rattle.ec_regs.specs.declared.fmmu.FmmuSettings.{FmmuSettings}
 use Rattle.ec_regs.specs.Memory.{al_control, ram_start, ram_end}
 use Rattle.ec_sync.specs.SyncManager.{SyncManager}
@@ -64,11 +65,11 @@ source-outside : (lower fs : List FmmuSettings) (q : ℕ) → q < 32768 → sour
 source-outside lower [] q l = refl
 source-outside lower (f ∷ fs) q l = rw (unmapped-outside f q l) (source-outside (lower ++ (f ∷ [])) fs q l)
 
-plain-outside : (ms : List SyncManager) (fs : List FmmuSettings) (p : LogicalSpan) (b : List ℕ) (q : ℕ) → q < 32768 → plain_bit ms fs p b q ≡ None
+pub plain-outside : (ms : List SyncManager) (fs : List FmmuSettings) (p : LogicalSpan) (b : List ℕ) (q : ℕ) → q < 32768 → plain_bit ms fs p b q ≡ None
 plain-outside ms fs p b q l = if_none _ _ (ap (λ (o : Option ℕ). option_map (bit b) (inside_span p o)) (source-outside [] (writers fs) q l))
 
-pub decoded-mapped : (ms : List SyncManager) (fs : List FmmuSettings) (p : LogicalSpan) (b memory : List ℕ) → fmmus_of memory ≡ fmmus_of (overlay memory (plain_bit ms fs p b))
-decoded-mapped ms fs p b memory = fmmus_of-alike memory (overlay memory (plain_bit ms fs p b)) (λ a lo hi.
+pub decoded-mapped : (o : Option Hardware) (ms : List SyncManager) (fs : List FmmuSettings) (p : LogicalSpan) (b memory : List ℕ) → fmmus_of o memory ≡ fmmus_of o (overlay memory (plain_bit ms fs p b))
+decoded-mapped o ms fs p b memory = fmmus_of-alike o memory (overlay memory (plain_bit ms fs p b)) (λ a lo hi.
     sym (byte-overlay memory (plain_bit ms fs p b) a (λ i e. plain-outside ms fs p b i (omega arith))))
 
 -- a bit was written in the memory itself, or in a manager's value
@@ -85,19 +86,19 @@ some_found ms a b fs gs p bytes x y hx ha hy hb hf =
 -- ---- a physical datagram that writes
 
 pub physically_written : (s : SlaveState) (reads : Bool) (w : Window) (memory : List ℕ) (managers : List SyncManager) (al : Al) (sii : Sii) (link : DataLink)
-    → memory ≡ memory_written s.managers w s.memory → managers ≡ physical_managers [] reads true w 0 s.managers
+    → memory ≡ memory_written s.kind.hardware s.managers w s.memory → managers ≡ physical_managers s.kind.hardware [] reads true w 0 s.managers
     → al ≡ (if touches w al_control then requesting s.al else s.al) → sii ≡ written s.sii w.from w.bytes → link ≡ dl_written s.link w.from w.bytes
     → record s { memory = memory; managers = managers; al = al; sii = sii; link = link } ≡ physical_after s reads true w
 unfolding physical_after
 physically_written s reads w memory managers al sii link m n a p l =
     ap (λ (x : List ℕ). record s { memory = x; managers = managers; al = al; sii = sii; link = link }) m
-    ∙ (ap (λ (x : List SyncManager). record s { memory = memory_written s.managers w s.memory; managers = x; al = al; sii = sii; link = link }) n
-    ∙ (ap (λ (x : Al). record s { memory = memory_written s.managers w s.memory; managers = physical_managers [] reads true w 0 s.managers; al = x; sii = sii; link = link }) a
-    ∙ (ap (λ (x : Sii). record s { memory = memory_written s.managers w s.memory; managers = physical_managers [] reads true w 0 s.managers; al = if touches w al_control then requesting s.al else s.al; sii = x; link = link }) p
-    ∙ ap (λ (x : DataLink). record s { memory = memory_written s.managers w s.memory; managers = physical_managers [] reads true w 0 s.managers; al = if touches w al_control then requesting s.al else s.al; sii = written s.sii w.from w.bytes; link = x }) l)))
+    ∙ (ap (λ (x : List SyncManager). record s { memory = memory_written s.kind.hardware s.managers w s.memory; managers = x; al = al; sii = sii; link = link }) n
+    ∙ (ap (λ (x : Al). record s { memory = memory_written s.kind.hardware s.managers w s.memory; managers = physical_managers s.kind.hardware [] reads true w 0 s.managers; al = x; sii = sii; link = link }) a
+    ∙ (ap (λ (x : Sii). record s { memory = memory_written s.kind.hardware s.managers w s.memory; managers = physical_managers s.kind.hardware [] reads true w 0 s.managers; al = if touches w al_control then requesting s.al else s.al; sii = x; link = link }) p
+    ∙ ap (λ (x : DataLink). record s { memory = memory_written s.kind.hardware s.managers w s.memory; managers = physical_managers s.kind.hardware [] reads true w 0 s.managers; al = if touches w al_control then requesting s.al else s.al; sii = written s.sii w.from w.bytes; link = x }) l)))
 
 -- that only reads
-pub physically_read : (s : SlaveState) (w : Window) (managers : List SyncManager) → managers ≡ physical_managers [] true false w 0 s.managers
+pub physically_read : (s : SlaveState) (w : Window) (managers : List SyncManager) → managers ≡ physical_managers s.kind.hardware [] true false w 0 s.managers
     → record s { managers = managers } ≡ physical_after s true false w
 unfolding physical_after
 physically_read s w managers n = ap (λ (x : List SyncManager). record s { managers = x }) n

@@ -29,7 +29,7 @@ abbrev mail_kept : SyncManager → List ℕ → SyncManager
 mail_kept m v = record m { mail = Some v }
 
 abbrev value_kept : SyncManager → List ℕ → SyncManager
-value_kept m v = record m { buffer = publishing m.buffer v }
+value_kept m v = record m { buffer = publishing m.buffer v; awaited = false }
 
 written_settings : (m : SyncManager) (v : List ℕ) → (ring_written m v).settings ≡ m.settings
 written_settings m v = elim (cases_Bool (is_mailbox m.settings)) [
@@ -161,7 +161,7 @@ abbrev pub wrote : SlaveState → LogicalSpan → List ℕ → SlaveState
 wrote s p b = logical_after s false true p b
 
 same_fmmus : (s : SlaveState) (p : LogicalSpan) (b : List ℕ) → fmmus (wrote s p b) ≡ fmmus s
-same_fmmus s p b = sym (decoded-mapped s.managers (fmmus s) p b s.memory)
+same_fmmus s p b = sym (decoded-mapped s.kind.hardware s.managers (fmmus s) p b s.memory)
 
 pub slave_at_once : (s : SlaveState) (p : LogicalSpan) (b c : List ℕ) → logical_after (wrote s p b) true false p c ≡ logical_after s true true p b
 slave_at_once s p b c =

@@ -6,6 +6,7 @@ use Rattle.std.proofs.lemmas.List.{length-replicate}
 use Rattle.ec_bits.specs.Bits.{bit, zeros}
 use Rattle.ec_bits.proofs.AnyLaws.{any_below-alike, if_true, if_false, within_true}
 use Rattle.ec_bits.proofs.BitLaws.{overlay_alike}
+use Rattle.ec_device.specs.declared.hardware.Hardware.{Hardware}
 use Rattle.ec_regs.specs.declared.fmmu.FmmuSettings.{FmmuSettings}
 use Rattle.ec_regs.specs.Managers.{is_set, is_mailbox, span}
 use Rattle.ec_sync.specs.SyncManager.{SyncManager, empty_manager, may_read, may_write, is_enabled, ring_read, ring_written}
@@ -140,31 +141,31 @@ logical_value-among lower m ms fs p bytes h =
     let g : governs m ((8 * m.settings.start + k) / 8) ≡ true = subst (λ (a : ℕ). governs m a ≡ true) at (governs-value m (k / 8) h (omega arith)) in
     told_among lower m ms ((8 * m.settings.start + k) / 8) (brought fs p bytes (8 * m.settings.start + k)) g))
 
-abbrev physical_by : List SyncManager → Bool → Bool → Window → ℕ → SyncManager → SyncManager
-physical_by all reads writes w n m =
-    if writes && is_configured w n then empty_manager (settings_written w n m) m.locked
+abbrev physical_by : Option Hardware → List SyncManager → Bool → Bool → Window → ℕ → SyncManager → SyncManager
+physical_by o all reads writes w n m =
+    if writes && is_configured o w n then empty_manager (settings_written o w n m) m.locked
     else manager_after reads writes (touches w) (touches w) (governs_among all n) (value_among all w n) m
 
-physical_from : (lower ms : List SyncManager) (reads writes : Bool) (w : Window)
-    → physical_managers lower reads writes w (length lower) ms ≡ each_from (length lower) (physical_by (lower ++ ms) reads writes w) ms
+physical_from : (o : Option Hardware) (lower ms : List SyncManager) (reads writes : Bool) (w : Window)
+    → physical_managers o lower reads writes w (length lower) ms ≡ each_from (length lower) (physical_by o (lower ++ ms) reads writes w) ms
 unfolding physical_manager
-physical_from lower [] reads writes w = refl
-physical_from lower (m ∷ ms) reads writes w =
-    let one : physical_manager lower reads writes w (length lower) m ≡ physical_by (lower ++ m ∷ ms) reads writes w (length lower) m
-    = ap (λ x. if writes && is_configured w (length lower) then empty_manager (settings_written w (length lower) m) m.locked else x)
+physical_from o lower [] reads writes w = refl
+physical_from o lower (m ∷ ms) reads writes w =
+    let one : physical_manager o lower reads writes w (length lower) m ≡ physical_by o (lower ++ m ∷ ms) reads writes w (length lower) m
+    = ap (λ x. if writes && is_configured o w (length lower) then empty_manager (settings_written o w (length lower) m) m.locked else x)
     (after_alike reads writes (touches w) (touches w) (is_ungoverned lower) (governs_among (lower ++ m ∷ ms) (length lower)) (physical_value lower w) (value_among (lower ++ m ∷ ms) w (length lower)) m (owned-among lower m ms) (physical_value-among lower m ms w)) in
     let next : length (lower ++ m ∷ []) ≡ length lower + 1 = length-append lower (m ∷ []) in
     let all : (lower ++ m ∷ []) ++ ms ≡ lower ++ m ∷ ms = append_assoc lower (m ∷ []) ms in
-    let rest : physical_managers (lower ++ m ∷ []) reads writes w (length lower + 1) ms ≡ each_from (length lower + 1) (physical_by (lower ++ m ∷ ms) reads writes w) ms
-    = ap (λ k. physical_managers (lower ++ m ∷ []) reads writes w k ms) (sym next)
-    ∙ (physical_from (lower ++ m ∷ []) ms reads writes w
-    ∙ (ap (λ k. each_from k (physical_by ((lower ++ m ∷ []) ++ ms) reads writes w) ms) next
-    ∙ ap (λ xs. each_from (length lower + 1) (physical_by xs reads writes w) ms) all)) in
-    ap (λ x. x ∷ physical_managers (lower ++ m ∷ []) reads writes w (length lower + 1) ms) one
-    ∙ ap (λ xs. physical_by (lower ++ m ∷ ms) reads writes w (length lower) m ∷ xs) rest
+    let rest : physical_managers o (lower ++ m ∷ []) reads writes w (length lower + 1) ms ≡ each_from (length lower + 1) (physical_by o (lower ++ m ∷ ms) reads writes w) ms
+    = ap (λ k. physical_managers o (lower ++ m ∷ []) reads writes w k ms) (sym next)
+    ∙ (physical_from o (lower ++ m ∷ []) ms reads writes w
+    ∙ (ap (λ k. each_from k (physical_by o ((lower ++ m ∷ []) ++ ms) reads writes w) ms) next
+    ∙ ap (λ xs. each_from (length lower + 1) (physical_by o xs reads writes w) ms) all)) in
+    ap (λ x. x ∷ physical_managers o (lower ++ m ∷ []) reads writes w (length lower + 1) ms) one
+    ∙ ap (λ xs. physical_by o (lower ++ m ∷ ms) reads writes w (length lower) m ∷ xs) rest
 
 pub physical_against_all : PhysicalAgainstAll
-physical_against_all reads writes w ms = physical_from [] ms reads writes w
+physical_against_all o reads writes w ms = physical_from o [] ms reads writes w
 
 abbrev logical_by : List SyncManager → Bool → Bool → List FmmuSettings → LogicalSpan → List ℕ → ℕ → SyncManager → SyncManager
 logical_by all reading writing fs p bytes n m =

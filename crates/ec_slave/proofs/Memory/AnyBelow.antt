@@ -12,7 +12,7 @@ any-suc : (n : ℕ) (p : ℕ → Bool) → any_below (suc n) p ≡ (if p n then 
 unfolding any_below
 any-suc n p = refl
 
-any-at : (n : ℕ) (p : ℕ → Bool) → any_below (n + 1) p ≡ (if p n then true else any_below n p)
+pub any-at : (n : ℕ) (p : ℕ → Bool) → any_below (n + 1) p ≡ (if p n then true else any_below n p)
 any-at n p = let e : n + 1 ≡ suc n = omega arith in ap (λ m. any_below m p) e ∙ any-suc n p
 
 -- the step of a loop that asks for one

@@ -1,8 +1,10 @@
 -- Physical datagrams that leave a slave as it was.
-use Rattle.std.proofs.Common.{ℕ, ◌+◌, ◌%◌, ◌<◌, ◌≤◌, ◌≡◌, ◌==◌, ◌||◌, Bool, true, false, Some, refl, ◌∙◌, ap, inl, inr, arith, is_some, List, [], ◌∷◌, ◌++◌, length, slice_index, nat_lt, nat_le}
+use Rattle.std.proofs.Common.{ℕ, ◌+◌, ◌%◌, ◌<◌, ◌≤◌, ◌≡◌, ◌==◌, ◌||◌, Bool, true, false, Some, refl, ◌∙◌, ap, inl, inr, arith, is_some, List, [], ◌∷◌, ◌++◌, length, slice_index, nat_lt, nat_le, Option}
 use Rattle.std.specs.Prelude.{bit_or}
 use Rattle.std.proofs.lemmas.Bool.{and_left, and_right, and_parts, cases_Bool, or_left, lt-ltb, leb-true}
 use Rattle.ec_bits.proofs.AnyLaws.{any_below_from, any_below_none, if_none, if_true, if_false, within_above}
+use Rattle.ec_device.specs.declared.hardware.Hardware.{Hardware}
+use Rattle.ec_device.specs.Hardware.{manager_number}
 use Rattle.ec_regs.specs.declared.manager.SyncManagerSettings.{SyncManagerSettings}
 use Rattle.ec_regs.specs.Memory.{manager_start, ram_start, sync_managers}
 use Rattle.ec_regs.specs.Managers.{is_set, is_mailbox, is_buffered, is_master_written, is_master_read}
@@ -34,23 +36,23 @@ registers-covered w own m l = elim (cases_Bool (is_set m.settings)) [
 ]
 
 -- it leaves every manager as it was, if it only reads
-pub managers-read : (lower ms : List SyncManager) (reads : Bool) (w : Window) (n : ℕ) → w.from + length w.bytes ≤ ram_start → physical_managers lower reads false w n ms ≡ ms
+pub managers-read : (o : Option Hardware) (lower ms : List SyncManager) (reads : Bool) (w : Window) (n : ℕ) → w.from + length w.bytes ≤ ram_start → physical_managers o lower reads false w n ms ≡ ms
 unfolding physical_manager
-managers-read lower [] reads w n l = refl
-managers-read lower (m ∷ ms) reads w n l =
+managers-read o lower [] reads w n l = refl
+managers-read o lower (m ∷ ms) reads w n l =
     let one : manager_after reads false (touches w) (touches w) (is_ungoverned lower) (physical_value lower w) m ≡ m
     = if_false _ _ _ (and_right reads _ (registers-covered w (is_ungoverned lower) m l)) in
-    ap (λ x. x ∷ physical_managers (lower ++ m ∷ []) reads false w (n + 1) ms) one
-    ∙ ap (λ xs. m ∷ xs) (managers-read (lower ++ m ∷ []) ms reads w (n + 1) l)
+    ap (λ x. x ∷ physical_managers o (lower ++ m ∷ []) reads false w (n + 1) ms) one
+    ∙ ap (λ xs. m ∷ xs) (managers-read o (lower ++ m ∷ []) ms reads w (n + 1) l)
 
 -- registers belong to no manager
 pub registers-idle : (s : SlaveState) (w : Window) → w.from + length w.bytes ≤ ram_start → physical_after s true false w ≡ s
 unfolding physical_after
-registers-idle s w l = rw (managers-read [] s.managers true w 0 l) refl
+registers-idle s w l = rw (managers-read s.kind.hardware [] s.managers true w 0 l) refl
 
 -- a write below the managers' registers leaves every manager as it was
-low-unset : (w : Window) (n : ℕ) → w.from + length w.bytes ≤ sync_managers → is_configured w n ≡ false
-low-unset w n l = any_below_none 8 (λ k. is_some (setting_for w n k)) (λ k h. ap is_some (if_none _ _ (from-outside w (manager_start n + k) (inr (omega arith)))))
+low-unset : (o : Option Hardware) (w : Window) (n : ℕ) → w.from + length w.bytes ≤ sync_managers → is_configured o w n ≡ false
+low-unset o w n l = any_below_none 8 (λ k. is_some (setting_for o w n k)) (λ k h. ap is_some (if_none _ _ (from-outside w (manager_start (manager_number o n) + k) (inr (omega arith)))))
 
 low-covered : (w : Window) (own : ℕ → Bool) (m : SyncManager) → w.from + length w.bytes ≤ ram_start → is_written_by (touches w) own m ≡ false
 low-covered w own m l = elim (cases_Bool (is_set m.settings)) [
@@ -58,16 +60,16 @@ low-covered w own m l = elim (cases_Bool (is_set m.settings)) [
   | inr f ↦ and_left (may_write m) _ (and_left _ _ (and_left _ _ f))
 ]
 
-pub managers-write : (lower ms : List SyncManager) (reads : Bool) (w : Window) (n : ℕ) → w.from + length w.bytes ≤ sync_managers → physical_managers lower reads true w n ms ≡ ms
+pub managers-write : (o : Option Hardware) (lower ms : List SyncManager) (reads : Bool) (w : Window) (n : ℕ) → w.from + length w.bytes ≤ sync_managers → physical_managers o lower reads true w n ms ≡ ms
 unfolding physical_manager
-managers-write lower [] reads w n l = refl
-managers-write lower (m ∷ ms) reads w n l =
+managers-write o lower [] reads w n l = refl
+managers-write o lower (m ∷ ms) reads w n l =
     let low : w.from + length w.bytes ≤ ram_start = omega arith in
     let own = is_ungoverned lower in
-    let one : physical_manager lower reads true w n m ≡ m
-    = if_false _ _ _ (low-unset w n l) ∙ (if_false _ _ _ (low-covered w own m low) ∙ if_false _ _ _ (and_right reads _ (registers-covered w own m low))) in
-    ap (λ x. x ∷ physical_managers (lower ++ m ∷ []) reads true w (n + 1) ms) one
-    ∙ ap (λ xs. m ∷ xs) (managers-write (lower ++ m ∷ []) ms reads w (n + 1) l)
+    let one : physical_manager o lower reads true w n m ≡ m
+    = if_false _ _ _ (low-unset o w n l) ∙ (if_false _ _ _ (low-covered w own m low) ∙ if_false _ _ _ (and_right reads _ (registers-covered w own m low))) in
+    ap (λ x. x ∷ physical_managers o (lower ++ m ∷ []) reads true w (n + 1) ms) one
+    ∙ ap (λ xs. m ∷ xs) (managers-write o (lower ++ m ∷ []) ms reads w (n + 1) l)
 
 -- every register reads
 registers-read : (s : SlaveState) (w : Window) (k : ℕ) → w.from + length w.bytes ≤ ram_start → k < length w.bytes → may_read_byte s.managers (touches w) (w.from + k) ≡ true

@@ -6,6 +6,8 @@ use Rattle.std.proofs.lemmas.Nat.{from_le_bytes-to_le_bytes_4}
 use Rattle.ec_bits.specs.Bits.{bit, overlay, within}
 use Rattle.ec_bits.proofs.AnyLaws.{any_below_from, any_below_some, if_true, if_false, if_none, within_true, within_parts}
 use Rattle.ec_bits.proofs.BitLaws.{overlay_own}
+use Rattle.ec_device.specs.declared.hardware.Hardware.{Hardware}
+use Rattle.ec_device.specs.Hardware.{manager_number}
 use Rattle.ec_regs.specs.declared.fmmu.FmmuSettings.{FmmuSettings}
 use Rattle.ec_regs.specs.Memory.{ram_start, ram_end, is_stored, sii_address}
 use Rattle.ec_frame.specs.declared.command.Command.{Command}
@@ -26,12 +28,13 @@ use Rattle.ec_slave.specs.Sound.{IsSlave}
 use Rattle.ec_slave.specs.Managers.{gets_at, is_read_by, is_written_by, reads_under, writes_under}
 use Rattle.ec_dl.specs.DataLink.{dl_takes, dl_written}
 use Rattle.ec_dl.proofs.StoredRegisters.{untaken}
-use Rattle.ec_slave.specs.Physical.{Window, touches, byte_from, byte_read, updated, updated_from, is_stored_at, may_read_byte, may_write_byte, memory_written, is_configured, setting_for, physical_managers, physical_after, some_byte_read, some_byte_written, is_written, physical_met}
+use Rattle.ec_slave.specs.Physical.{is_missing, Window, touches, byte_from, byte_read, updated, updated_from, is_stored_at, may_read_byte, may_write_byte, memory_written, is_configured, setting_for, physical_managers, physical_after, some_byte_read, some_byte_written, is_written, physical_met}
 use Rattle.ec_slave.specs.AgainstAll.{each_from, governs_among, is_governor}
 use Rattle.ec_slave.specs.Logical.{span_of, readable_bit, read_bit, written_bit, plain_bit, logical_managers, only_if, some_read, some_written, meets_logically}
 use Rattle.ec_slave.specs.Written.{some_plain_written}
 use Rattle.ec_slave.specs.Meeting.{window_of, meets, meets_by, meets_physically}
 use Rattle.ec_slave.specs.Laws.{CountsWhatItChanges}
+use Rattle.ec_slave.proofs.Memory.MissingFmmus.{not-missing}
 use Rattle.ec_slave.proofs.Memory.AgainstAll.{updated_alike, physical_against_all, logical_against_all, writable-set, readable-set}
 use Rattle.ec_slave.proofs.LogicalAccess.SomeWritten.{if-some, or-cases, some_written-is}
 
@@ -52,12 +55,13 @@ updated-idle k (x ∷ xs) = ap (λ ys. x ∷ ys) (updated-idle (k + 1) xs)
 
 -- ---- one byte of a physical datagram
 
-some-written : (ms : List SyncManager) (busy : Bool) (w : Window) (a : ℕ) → touches w a ≡ true → may_write_byte ms busy (touches w) a ≡ true → some_byte_written ms busy w ≡ true
-some-written ms busy w a t m =
+some-written : (o : Option Hardware) (ms : List SyncManager) (busy : Bool) (w : Window) (a : ℕ) → touches w a ≡ true → is_missing o a ≡ false → may_write_byte ms busy (touches w) a ≡ true
+    → some_byte_written o ms busy w ≡ true
+some-written o ms busy w a t h m =
     let p = within_parts w.from (length w.bytes) a t in
     let at : a ≡ w.from + (a - w.from) = let x = p.0 in omega arith in
-    any_below_from (length w.bytes) (λ i. may_write_byte ms busy (touches w) (w.from + i)) (a - w.from) (let x = p.0 in let y = p.1 in omega arith)
-    (subst (λ (b : ℕ). may_write_byte ms busy (touches w) b ≡ true) at m)
+    any_below_from (length w.bytes) (λ i. if is_missing o (w.from + i) then false else may_write_byte ms busy (touches w) (w.from + i)) (a - w.from) (let x = p.0 in let y = p.1 in omega arith)
+    (subst (λ (b : ℕ). (if is_missing o b then false else may_write_byte ms busy (touches w) b) ≡ true) at (if_false _ _ _ h ∙ m))
 
 some-read : (ms : List SyncManager) (w : Window) (a : ℕ) → touches w a ≡ true → may_read_byte ms (touches w) a ≡ true → some_byte_read ms w ≡ true
 some-read ms w a t m =
@@ -166,29 +170,32 @@ each-idle-first f ms h = each-idle 0 f ms (λ k l.
 
 -- ---- a physical datagram
 
-memory-idle : (ms : List SyncManager) (busy : Bool) (w : Window) (memory : List ℕ) → some_byte_written ms busy w ≡ false → memory_written ms w memory ≡ memory
-memory-idle ms busy w memory f =
-    updated_alike 0 memory _ (λ i. None) (λ a l. elim (cases_Bool (is_stored_at ms a)) as (λ _. (if is_stored_at ms a then byte_from w a else None) ≡ None) [
-      | inl k ↦ if_none (is_stored_at ms a) (byte_from w a) (if_false (touches w a) (Some (slice_index w.bytes (a - w.from))) None
-          (refuted (touches w a) (some_byte_written ms busy w) f (λ t. some-written ms busy w a t (kept-writes ms busy (touches w) a k))))
-      | inr n ↦ if_false _ _ _ n
+memory-idle : (o : Option Hardware) (ms : List SyncManager) (busy : Bool) (w : Window) (memory : List ℕ) → some_byte_written o ms busy w ≡ false → memory_written o ms w memory ≡ memory
+memory-idle o ms busy w memory f =
+    updated_alike 0 memory _ (λ i. None) (λ a l. elim (cases_Bool (is_missing o a)) as (λ _. (if is_missing o a then None else (if is_stored_at ms a then byte_from w a else None)) ≡ None) [
+      | inl h ↦ if_true _ _ _ h
+      | inr h ↦ if_false _ _ _ h ∙ elim (cases_Bool (is_stored_at ms a)) as (λ _. (if is_stored_at ms a then byte_from w a else None) ≡ None) [
+        | inl k ↦ if_none (is_stored_at ms a) (byte_from w a) (if_false (touches w a) (Some (slice_index w.bytes (a - w.from))) None
+            (refuted (touches w a) (some_byte_written o ms busy w) f (λ t. some-written o ms busy w a t h (kept-writes ms busy (touches w) a k))))
+        | inr n ↦ if_false _ _ _ n
+      ]
     ])
     ∙ updated-idle 0 memory
 
-configured-counts : (ms : List SyncManager) (busy : Bool) (w : Window) (n : ℕ) → is_configured w n ≡ true → some_byte_written ms busy w ≡ true
-configured-counts ms busy w n c =
-    let r = any_below_some 8 (λ k. is_some (setting_for w n k)) c in
-    let a : ℕ = 0x0800 + 8 * n + r.0 in
+configured-counts : (o : Option Hardware) (ms : List SyncManager) (busy : Bool) (w : Window) (n : ℕ) → is_configured o w n ≡ true → some_byte_written o ms busy w ≡ true
+configured-counts o ms busy w n c =
+    let r = any_below_some 8 (λ k. is_some (setting_for o w n k)) c in
+    let a : ℕ = 0x0800 + 8 * manager_number o n + r.0 in
     let q = if-some (is_stored a) (byte_from w a) r.2 in
     let u = if-some (touches w a) (Some (slice_index w.bytes (a - w.from))) q.1 in
-    some-written ms busy w a u.0 (stored-writes ms busy (touches w) a q.0)
+    some-written o ms busy w a u.0 (not-missing o a (inr (omega arith))) (stored-writes ms busy (touches w) a q.0)
 
-written-counts : (ms : List SyncManager) (busy : Bool) (w : Window) (n : ℕ) → is_written_by (touches w) (governs_among ms n) (manager_at ms n) ≡ true → some_byte_written ms busy w ≡ true
-written-counts ms busy w n h =
+written-counts : (h : Option Hardware) (ms : List SyncManager) (busy : Bool) (w : Window) (n : ℕ) → is_written_by (touches w) (governs_among ms n) (manager_at ms n) ≡ true → some_byte_written h ms busy w ≡ true
+written-counts x ms busy w n h =
     let m : SyncManager = manager_at ms n in
     let p = and_parts (may_write m) _ h in
     let o = own-byte ms (touches w) n (writable-set m p.0) p.1 in
-    some-written ms busy w o.at o.touched (ram-writes ms busy (touches w) o.at o.from_ram o.to_ram (own-writes ms (touches w) n o p.0))
+    some-written x ms busy w o.at o.touched (not-missing x o.at (inr (let r = o.from_ram in omega arith))) (ram-writes ms busy (touches w) o.at o.from_ram o.to_ram (own-writes ms (touches w) n o p.0))
 
 read-counts : (ms : List SyncManager) (w : Window) (n : ℕ) → is_read_by (touches w) (governs_among ms n) (manager_at ms n) ≡ true → some_byte_read ms w ≡ true
 read-counts ms w n h =
@@ -202,13 +209,13 @@ both-false : (b x y : Bool) → (b && y) ≡ false → (x ≡ true → y ≡ tru
 both-false true x y f h = refuted x y f h
 both-false false x y f h = refl
 
-managers-idle : (ms : List SyncManager) (busy reads writes : Bool) (w : Window) → (reads && some_byte_read ms w) ≡ false → (writes && some_byte_written ms busy w) ≡ false
-    → physical_managers [] reads writes w 0 ms ≡ ms
-managers-idle ms busy reads writes w fr fw =
-    physical_against_all reads writes w ms
+managers-idle : (o : Option Hardware) (ms : List SyncManager) (busy reads writes : Bool) (w : Window) → (reads && some_byte_read ms w) ≡ false → (writes && some_byte_written o ms busy w) ≡ false
+    → physical_managers o [] reads writes w 0 ms ≡ ms
+managers-idle o ms busy reads writes w fr fw =
+    physical_against_all o reads writes w ms
     ∙ each-idle-first _ ms (λ k l.
-    if_false _ _ _ (both-false writes _ _ fw (configured-counts ms busy w k))
-    ∙ (if_false _ _ _ (both-false writes _ _ fw (written-counts ms busy w k))
+    if_false _ _ _ (both-false writes _ _ fw (configured-counts o ms busy w k))
+    ∙ (if_false _ _ _ (both-false writes _ _ fw (written-counts o ms busy w k))
     ∙ if_false _ _ _ (both-false reads _ _ fr (read-counts ms w k))))
 
 -- the SII port, where none of the bytes that it stores is touched
@@ -236,26 +243,26 @@ pub port-busy : (p : Sii) (from : ℕ) (bytes : List ℕ) → p.busy ≡ true �
 unfolding written
 port-busy p from bytes t = if_true _ _ _ t
 
-port-kept : (ms : List SyncManager) (p : Sii) (w : Window) → p.address < 2 ^ 32 → some_byte_written ms p.busy w ≡ false → written p w.from w.bytes ≡ p
-port-kept ms p w l f = elim (cases_Bool p.busy) [
+port-kept : (o : Option Hardware) (ms : List SyncManager) (p : Sii) (w : Window) → p.address < 2 ^ 32 → some_byte_written o ms p.busy w ≡ false → written p w.from w.bytes ≡ p
+port-kept o ms p w l f = elim (cases_Bool p.busy) [
   | inl t ↦ port-busy p w.from w.bytes t
-  | inr idle ↦ port-idle p w.from w.bytes l idle (λ place from to. refuted (touches w place) (some_byte_written ms p.busy w) f (λ t.
-      some-written ms p.busy w place t (register-writes ms p.busy (touches w) place (omega arith)
+  | inr idle ↦ port-idle p w.from w.bytes l idle (λ place from to. refuted (touches w place) (some_byte_written o ms p.busy w) f (λ t.
+      some-written o ms p.busy w place t (not-missing o place (inl (omega arith))) (register-writes ms p.busy (touches w) place (omega arith)
       (or_right (is_stored place) _ (and_from _ _ (within_true 0x0502 6 place (omega arith) (omega arith)) (ap not idle))))))
 ]
 
-slave-idle : (s : SlaveState) (reads writes : Bool) (w : Window) → s.sii.address < 2 ^ 32
+pub slave-idle : (s : SlaveState) (reads writes : Bool) (w : Window) → s.sii.address < 2 ^ 32
     → (reads && some_byte_read s.managers w) ≡ false → (writes && is_written s w) ≡ false → physical_after s reads writes w ≡ s
 unfolding physical_after
 slave-idle s reads writes w l fr none =
-    let parts = neither writes (some_byte_written s.managers s.sii.busy w) (dl_takes s.link w.from (length w.bytes)) none in
+    let parts = neither writes (some_byte_written s.kind.hardware s.managers s.sii.busy w) (dl_takes s.link w.from (length w.bytes)) none in
     let fw = parts.0 in
-    let managers = managers-idle s.managers s.sii.busy reads writes w fr fw in
-    let memory = only-written writes (memory_written s.managers w s.memory) s.memory fw (λ f. memory-idle s.managers s.sii.busy w s.memory f) in
-    let sii = only-written writes (written s.sii w.from w.bytes) s.sii fw (λ f. port-kept s.managers s.sii w l f) in
+    let managers = managers-idle s.kind.hardware s.managers s.sii.busy reads writes w fr fw in
+    let memory = only-written writes (memory_written s.kind.hardware s.managers w s.memory) s.memory fw (λ f. memory-idle s.kind.hardware s.managers s.sii.busy w s.memory f) in
+    let sii = only-written writes (written s.sii w.from w.bytes) s.sii fw (λ f. port-kept s.kind.hardware s.managers s.sii w l f) in
     let link = only-kept writes (dl_written s.link w.from w.bytes) s.link parts.1 (λ f. untaken s.link w.from w.bytes f) in
     let request : (if writes && touches w 0x0120 then requesting s.al else s.al) ≡ s.al
-    = if_false _ _ _ (both-false writes _ _ fw (λ t. some-written s.managers s.sii.busy w 0x0120 t (stored-writes s.managers s.sii.busy (touches w) 0x0120 refl))) in
+    = if_false _ _ _ (both-false writes _ _ fw (λ t. some-written s.kind.hardware s.managers s.sii.busy w 0x0120 t (not-missing s.kind.hardware 0x0120 (inl (omega arith))) (stored-writes s.managers s.sii.busy (touches w) 0x0120 refl))) in
     rw (managers, memory, sii, link, request) refl
   where
     neither : (b x y : Bool) → (b && (x || y)) ≡ false → ((b && x) ≡ false) × ((b && y) ≡ false)
@@ -267,7 +274,7 @@ slave-idle s reads writes w l fr none =
     only-kept true x y f h = h f
     only-kept false x y f h = refl
 
-    only-written : {X : Type 0} (b : Bool) (x y : X) → (b && some_byte_written s.managers s.sii.busy w) ≡ false → (some_byte_written s.managers s.sii.busy w ≡ false → x ≡ y) → (if b then x else y) ≡ y
+    only-written : {X : Type 0} (b : Bool) (x y : X) → (b && some_byte_written s.kind.hardware s.managers s.sii.busy w) ≡ false → (some_byte_written s.kind.hardware s.managers s.sii.busy w ≡ false → x ≡ y) → (if b then x else y) ≡ y
     only-written true x y f h = h f
     only-written false x y f h = refl
 

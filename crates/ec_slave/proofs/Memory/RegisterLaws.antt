@@ -1,12 +1,14 @@
 -- Registers under a write and a read, what they show, and the RAM behind its managers.
-use Rattle.std.proofs.Common.{ℕ, zero, suc, ◌+◌, ◌*◌, ◌/◌, ◌<◌, ◌≤◌, ◌≡◌, ◌&&◌, ◌||◌, not, Bool, true, false, Option, Some, unwrap_or, get_or, refl, sym, ◌∙◌, ap, inl, inr, arith, if◌then◌else◌, List, [], ◌∷◌, ◌++◌, length, slice_index, is_some, nat_lt}
+use Rattle.std.proofs.Common.{ℕ, zero, suc, ◌+◌, ◌*◌, ◌/◌, ◌<◌, ◌≤◌, ◌≡◌, ◌&&◌, ◌||◌, not, Bool, true, false, Option, Some, unwrap_or, get_or, refl, sym, ◌∙◌, ap, inl, inr, arith, if◌then◌else◌, List, [], ◌∷◌, ◌++◌, length, slice_index, is_some, nat_lt, ◌%◌, ◌==◌}
 use Rattle.std.specs.Int.{from_bool, to_le_bytes, w16, w32}
-use Rattle.std.proofs.lemmas.Bool.{cases_Bool, and_from, and_left, and_right, or_left, lt-ltb, le-ltb}
+use Rattle.std.proofs.lemmas.Bool.{false≢true, cases_Bool, and_from, and_left, and_right, or_left, or_right, lt-ltb, le-ltb}
 use Rattle.ec_bits.specs.Bits.{within, zeros}
 use Rattle.std.proofs.lemmas.List.{length-replicate}
-use Rattle.ec_bits.proofs.AnyLaws.{if_true, if_false, within_above, any_below_none}
+use Rattle.ec_bits.proofs.AnyLaws.{if_true, if_false, within_above, within_true, any_below_none}
+use Rattle.ec_device.specs.declared.hardware.Hardware.{Hardware}
+use Rattle.ec_device.specs.Hardware.{manager_number}
 use Rattle.ec_regs.specs.Memory.{ram_start, ram_end, is_stored}
-use Rattle.ec_regs.specs.Managers.{is_set}
+use Rattle.ec_regs.specs.Managers.{is_set, settings_of}
 use Rattle.ec_sync.specs.SyncManager.{SyncManager, empty_manager, may_write}
 use Rattle.ec_sync.specs.Governing.{governor}
 use Rattle.ec_al.specs.States.{state_number}
@@ -15,8 +17,9 @@ use Rattle.ec_al.specs.declared.state.State.TheVariants.{Init, PreOp, SafeOp, Op
 use Rattle.ec_sii.specs.Port.{sii_byte}
 use Rattle.ec_slave.specs.State.{SlaveState, manager_at}
 use Rattle.ec_slave.specs.Managers.{reads_under, writes_under, is_ungoverned, is_written_by}
-use Rattle.ec_slave.specs.Physical.{Window, touches, byte_at, register_byte, may_read_byte, may_write_byte, is_stored_at, setting_for, is_configured, settings_written, updated_from, physical_manager, physical_managers, physical_after}
+use Rattle.ec_slave.specs.Physical.{Window, touches, byte_at, register_byte, may_read_byte, may_write_byte, is_missing, is_stored_at, setting_for, is_configured, settings_written, updated_from, physical_manager, physical_managers, physical_after}
 use Rattle.ec_slave.specs.Interface.{set_by, RegistersAreWritten, RegistersAreRead, ManagersAside, RegistersAreOpen, SlavesShowThemselves, UpdatedByIndex, RamIsGoverned, UpdatedWhole, ManagersAreAccessed, WholeValuesAreTheData, AccessesLeave}
+use Rattle.ec_slave.proofs.Memory.MissingFmmus.{missing-left}
 use Rattle.ec_slave.proofs.Memory.WritesByByte.{writes_by_byte}
 use Rattle.ec_slave.proofs.Memory.BroadcastLaw.{set-start, registers-idle}
 use Rattle.ec_slave.proofs.Always.MetIsSlave.{length-physical_managers}
@@ -33,21 +36,33 @@ registers-uncovered w own m l = elim (cases_Bool (is_set m.settings)) [
   | inr f ↦ and_left (may_write m) _ (and_left _ _ (and_left _ _ f))
 ]
 
-one-set : (lower : List SyncManager) (w : Window) (n : ℕ) (m : SyncManager) → w.from + length w.bytes ≤ ram_start → physical_manager lower false true w n m ≡ set_by w n m
+one-set : (o : Option Hardware) (lower : List SyncManager) (w : Window) (n : ℕ) (m : SyncManager) → w.from + length w.bytes ≤ ram_start → physical_manager o lower false true w n m ≡ set_by o w n m
 unfolding physical_manager
-one-set lower w n m l = ap (λ (x : SyncManager). if is_configured w n then empty_manager (settings_written w n m) m.locked else x) (if_false _ _ _ (registers-uncovered w (is_ungoverned lower) m l))
+one-set o lower w n m l = ap (λ (x : SyncManager). if is_configured o w n then empty_manager (settings_written o w n m) m.locked else x) (if_false _ _ _ (registers-uncovered w (is_ungoverned lower) m l))
 
-set-at : (lower ms : List SyncManager) (w : Window) (n k : ℕ) → w.from + length w.bytes ≤ ram_start → k < length ms
-    → manager_at (physical_managers lower false true w n ms) k ≡ set_by w (n + k) (manager_at ms k)
-set-at lower [] w n k l b = absurd (omega arith)
-set-at lower (m ∷ ms) w n zero l b = let e : n + 0 ≡ n = omega arith in one-set lower w n m l ∙ ap (λ (j : ℕ). set_by w j m) (sym e)
-set-at lower (m ∷ ms) w n (suc k) l b =
+set-at : (o : Option Hardware) (lower ms : List SyncManager) (w : Window) (n k : ℕ) → w.from + length w.bytes ≤ ram_start → k < length ms
+    → manager_at (physical_managers o lower false true w n ms) k ≡ set_by o w (n + k) (manager_at ms k)
+set-at o lower [] w n k l b = absurd (omega arith)
+set-at o lower (m ∷ ms) w n zero l b = let e : n + 0 ≡ n = omega arith in one-set o lower w n m l ∙ ap (λ (j : ℕ). set_by o w j m) (sym e)
+set-at o lower (m ∷ ms) w n (suc k) l b =
     let e : n + 1 + k ≡ n + suc k = omega arith in
-    set-at (lower ++ m ∷ []) ms w (n + 1) k l (omega arith) ∙ ap (λ (j : ℕ). set_by w j (manager_at ms k)) e
+    set-at o (lower ++ m ∷ []) ms w (n + 1) k l (omega arith) ∙ ap (λ (j : ℕ). set_by o w j (manager_at ms k)) e
+
+-- the settings of a manager are stored
+pub stored-setting : (q k : ℕ) → q < 4 → k < 8 → (nat_lt k 5 || (k == 6)) ≡ true → is_stored (2048 + 8 * q + k) ≡ true
+stored-setting q k l h t =
+    let a : ℕ = 2048 + 8 * q + k in
+    let rest : a % 8 ≡ k = omega (arith, h) in
+    or_right (within 16 2 a) _ (or_right (within 288 2 a) _ (or_right (within 1536 64 a) _
+    (and_from _ _ (within_true 2048 32 a (omega arith) (omega (arith, l, h))) (ap (λ (r : ℕ). nat_lt r 5 || (r == 6)) rest ∙ t))))
+
+-- settings go by six of the eight bytes
+pub settings-alike : (f g : ℕ → ℕ) → f 0 ≡ g 0 → f 1 ≡ g 1 → f 2 ≡ g 2 → f 3 ≡ g 3 → f 4 ≡ g 4 → f 6 ≡ g 6 → settings_of f ≡ settings_of g
+settings-alike f g a b c d e h = rw (a, b, c, d, e, h) refl
 
 pub managers_aside : ManagersAside
-managers_aside w n h = any_below_none 8 (λ k. is_some (setting_for w n k)) (λ k l. elim (cases_Bool (is_stored (0x0800 + 8 * n + k))) [
-  | inl t ↦ ap is_some (if_true _ _ _ t ∙ from-outside w (0x0800 + 8 * n + k) (elim h [ inl a ↦ inr (omega arith) | inr a ↦ inl (omega arith) ]))
+managers_aside o w n h = any_below_none 8 (λ k. is_some (setting_for o w n k)) (λ k l. elim (cases_Bool (is_stored (0x0800 + 8 * manager_number o n + k))) [
+  | inl t ↦ ap is_some (if_true _ _ _ t ∙ from-outside w (0x0800 + 8 * manager_number o n + k) (elim h [ inl a ↦ inr (omega arith) | inr a ↦ inl (omega arith) ]))
   | inr f ↦ ap is_some (if_false _ _ _ f)
 ])
 
@@ -57,15 +72,20 @@ kept-register : (ms : List SyncManager) (a : ℕ) → a < ram_start → is_store
 unfolding is_stored_at
 kept-register ms a l s o = if_true _ _ _ (lt-ltb a ram_start l) ∙ and_from _ _ s (ap not o)
 
+kept-parts : (b x : Bool) → (if b then false else x) ≡ true → (b ≡ false) × (x ≡ true)
+kept-parts true x e = absurd (false≢true e)
+kept-parts false x e = (refl, e)
+
 pub registers_written : RegistersAreWritten
 unfolding physical_after
 registers_written s w l = record {
   kind = refl;
-  room = (writes_by_byte s.managers w s.memory).0;
-  untouched = λ a b o. ((writes_by_byte s.managers w s.memory).1 a b).untouched o;
-  taken = λ a b r t k o. ((writes_by_byte s.managers w s.memory).1 a b).taken t (kept-register s.managers a r k o);
-  count = length-physical_managers [] false true w 0 s.managers;
-  managers = λ n b. let e : 0 + n ≡ n = omega arith in set-at [] s.managers w 0 n l b ∙ ap (λ (j : ℕ). set_by w j (manager_at s.managers n)) e;
+  room = (writes_by_byte s.kind.hardware s.managers w s.memory).0;
+  untouched = λ a b o. ((writes_by_byte s.kind.hardware s.managers w s.memory).1 a b).untouched o;
+  missing = λ a h. missing-left s.kind.hardware s.managers w s.memory a h;
+  taken = λ a b r t k o. let p = kept-parts (is_missing s.kind.hardware a) (is_stored a) k in ((writes_by_byte s.kind.hardware s.managers w s.memory).1 a b).taken t p.0 (kept-register s.managers a r p.1 o);
+  count = length-physical_managers s.kind.hardware [] false true w 0 s.managers;
+  managers = λ n b. let e : 0 + n ≡ n = omega arith in set-at s.kind.hardware [] s.managers w 0 n l b ∙ ap (λ (j : ℕ). set_by s.kind.hardware w j (manager_at s.managers n)) e;
   al = refl;
   sii = refl;
   link = refl;
@@ -142,7 +162,7 @@ ram_governed s a low high = record {
 
 pub managers_accessed : ManagersAreAccessed
 unfolding physical_manager
-managers_accessed lower w n m = record { read = refl; written = λ e. if_false _ _ _ e }
+managers_accessed o lower w n m = record { read = refl; written = λ e. if_false _ _ _ e }
 
 updated-all : (k : ℕ) (xs ys : List ℕ) (f : ℕ → Option ℕ) → length xs ≡ length ys → ((i : ℕ) → i < length ys → f (k + i) ≡ Some (get_or ys i 0)) → updated_from k xs f ≡ ys
 updated-all k [] [] f e h = refl

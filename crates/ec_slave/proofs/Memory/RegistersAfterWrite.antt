@@ -5,6 +5,7 @@ use Rattle.std.proofs.lemmas.List.{length-replicate}
 use Rattle.ec_bits.specs.Bits.{bit, within, zeros}
 use Rattle.ec_bits.proofs.AnyLaws.{if_true, if_false, within_above, within_below, within_parts, within_true}
 use Rattle.ec_bits.proofs.BitLaws.{bit-overlay, bit-zeros}
+use Rattle.ec_device.specs.declared.hardware.Hardware.{Hardware}
 use Rattle.ec_regs.specs.Memory.{ram_start, is_stored}
 use Rattle.ec_regs.specs.Managers.{is_mailbox, is_set}
 use Rattle.ec_frame.specs.declared.command.Command.{Command}
@@ -18,16 +19,15 @@ use Rattle.ec_slave.specs.State.{SlaveState, Met, fmmus, manager_at, station_of}
 use Rattle.ec_slave.specs.Sound.{IsSlave}
 use Rattle.ec_slave.specs.Managers.{manager_after}
 use Rattle.ec_slave.specs.AgainstAll.{bits_among, each_from, governs_among, value_among}
-use Rattle.ec_dl.specs.DataLink.{dl_byte, dl_stores, dl_written, stored_index}
+use Rattle.ec_dl.specs.DataLink.{DataLink, dl_byte, dl_stores, dl_written, stored_index}
 use Rattle.ec_dl.proofs.StoredRegisters.{read_back, stored_are_six}
-use Rattle.ec_slave.specs.Physical.{Window, byte_at, is_configured, is_stored_at, physical_managers, physical_met, memory_written, register_byte, settings_written, physical_after, touches}
+use Rattle.ec_slave.specs.Physical.{Window, byte_at, is_configured, is_missing, is_stored_at, keeps, physical_managers, physical_met, memory_written, register_byte, settings_written, physical_after, touches}
 use Rattle.ec_slave.specs.Logical.{brought, meets_logically, only_if, span_of}
 use Rattle.ec_slave.specs.Meeting.{window_of, meets, meets_by, meets_physically, slave_met}
 use Rattle.ec_slave.specs.MeetingLaws.{writes_at, RegistersAfterWrite, ManagersAfterWrite, MovesBits, LogicalBitByBit, IsValueWritten, ValueBitByBit}
 use Rattle.ec_slave.proofs.Memory.AgainstAll.{logical_against_all, physical_against_all}
 use Rattle.ec_slave.proofs.Memory.BroadcastLaw.{set-start}
 use Rattle.ec_slave.proofs.Memory.WritesByByte.{written_at}
-use Rattle.ec_slave.proofs.LogicalAccess.SomeWritten.{or-cases}
 
 -- a command by which a slave can write is physical
 writing-physical : (c : Command) (s : SlaveState) (d : Datagram) → is_writing (role_of c (adp_of d) (station_of s)) ≡ true → meets_by c s d ≡ meets_physically s d
@@ -96,33 +96,26 @@ below-memory a l =
     ap (λ (b : Bool). b || (within 0x0120 2 a || within 0x0600 64 a)) (within_below 0x0010 2 a l)
     ∙ (ap (λ (b : Bool). b || within 0x0600 64 a) (within_below 0x0120 2 a (omega arith)) ∙ within_below 0x0600 64 a (omega arith))
 
-memory-no-count : (a : ℕ) → in_memory a ≡ true → ((a == 0x0004) || (a == 0x0005)) ≡ false
-memory-no-count a m = false_from_ne_true ((a == 0x0004) || (a == 0x0005)) (λ t.
-    let few : a < 0x0010 = elim (or-cases (a == 0x0004) (a == 0x0005) t) [
-      | inl x ↦ let e = eqb-true a 0x0004 x in omega arith
-      | inr x ↦ let e = eqb-true a 0x0005 x in omega arith
-    ] in
-    both_ways (in_memory a) (below-memory a few) m)
-
-memory-no-size : (a : ℕ) → in_memory a ≡ true → (a == 0x0006) ≡ false
-memory-no-size a m = false_from_ne_true (a == 0x0006) (λ t.
-    let few : a < 0x0010 = let e = eqb-true a 0x0006 t in omega arith in
+memory-high : (a n : ℕ) → n < 0x0010 → in_memory a ≡ true → (a == n) ≡ false
+memory-high a n l m = false_from_ne_true (a == n) (λ t.
+    let few : a < 0x0010 = let e = eqb-true a n t in omega (arith, e, l) in
     both_ways (in_memory a) (below-memory a few) m)
 
 -- a register that is stored reads what the memory has, where it is no manager's
 stored-reads : (s : SlaveState) (a : ℕ) → a < 0x0800 → in_memory a ≡ true → byte_at s a ≡ slice_index s.memory a
 unfolding byte_at register_byte
 stored-reads s a l m =
-    if_true _ _ _ (lt-ltb a ram_start (omega arith)) ∙ (if_false _ _ _ (memory-no-count a m) ∙ (if_false _ _ _ (memory-no-size a m) ∙ if_true _ _ _ m))
+    if_true _ _ _ (lt-ltb a ram_start (omega arith))
+    ∙ (if_false _ _ _ (memory-high a 0x0004 (omega arith) m) ∙ (if_false _ _ _ (memory-high a 0x0005 (omega arith) m) ∙ (if_false _ _ _ (memory-high a 0x0006 (omega arith) m) ∙ if_true _ _ _ m)))
 
 -- any other reads by what it reads apart from the memory
-other-reads : (s t : SlaveState) (a : ℕ) → a < 0x0800 → in_memory a ≡ false → status_word t.al ≡ status_word s.al → t.al.code ≡ s.al.code
+other-reads : (s t : SlaveState) (a : ℕ) → t.kind ≡ s.kind → a < 0x0800 → in_memory a ≡ false → status_word t.al ≡ status_word s.al → t.al.code ≡ s.al.code
     → sii_byte t.sii a ≡ sii_byte s.sii a → dl_byte t.link a ≡ dl_byte s.link a → byte_at t a ≡ byte_at s a
 unfolding byte_at register_byte
-other-reads s t a l m w c p k =
+other-reads s t a same l m w c p k =
     let out : within 0x0800 32 a ≡ false = and_left _ _ (lt-leb 0x0800 a l) in
     let ram : nat_lt a ram_start ≡ true = lt-ltb a ram_start (omega arith) in
-    rw (ram, m, out, w, c, p, k) refl
+    rw (ram, m, out, same, w, c, p, k) refl
 
 -- a data link register that keeps writes reads what it keeps
 link-reads : (s : SlaveState) (a : ℕ) → is_some (stored_index a) ≡ true → byte_at s a ≡ dl_byte s.link a
@@ -169,37 +162,61 @@ requested-same : (b : Bool) (al : Al) → (let x : Al = if b then requesting al 
 requested-same true al = (refl, refl)
 requested-same false al = (refl, refl)
 
+unkept-by : (b x : Bool) → x ≡ false → (if b then false else x) ≡ false
+unkept-by true x e = refl
+unkept-by false x e = e
+
+-- no register that datagrams store in the memory itself is a data link register
+unlinked : (link : DataLink) (a : ℕ) → in_memory a ≡ true → dl_stores link a ≡ false
+unlinked link a m = false_from_ne_true (dl_stores link a) (λ k. elim (stored_are_six a (and_parts link.visible _ k).1) [
+  | inl e ↦ both_ways (in_memory a) (ap in_memory e) m
+  | inr (inl e) ↦ both_ways (in_memory a) (ap in_memory e) m
+  | inr (inr (inl e)) ↦ both_ways (in_memory a) (ap in_memory e) m
+  | inr (inr (inr (inl e))) ↦ both_ways (in_memory a) (ap in_memory e) m
+  | inr (inr (inr (inr (inl e)))) ↦ both_ways (in_memory a) (ap in_memory e) m
+  | inr (inr (inr (inr (inr e)))) ↦ both_ways (in_memory a) (ap in_memory e) m
+])
+
 registers-written : (s : SlaveState) (reads : Bool) (w : Window) (a : ℕ) → IsSlave s → a < 0x0800 → within 0x0502 6 a ≡ false
-    → byte_at (physical_after s reads true w) a ≡ (if touches w a && (is_stored a || dl_stores s.link a) then slice_index w.bytes (a - w.from) else byte_at s a)
+    → byte_at (physical_after s reads true w) a ≡ (if touches w a && (keeps s.kind.hardware a || dl_stores s.link a) then slice_index w.bytes (a - w.from) else byte_at s a)
 unfolding physical_after
 registers-written s reads w a h l out =
     let inside : a < length s.memory = omega (arith, h.memory) in
-    let at = written_at s.managers w s.memory a inside in
+    let o : Option Hardware = s.kind.hardware in
+    let at = written_at o s.managers w s.memory a inside in
     let after : SlaveState = record s {
-      memory = memory_written s.managers w s.memory;
-      managers = physical_managers [] reads true w 0 s.managers;
+      memory = memory_written o s.managers w s.memory;
+      managers = physical_managers o [] reads true w 0 s.managers;
       al = if touches w 0x0120 then requesting s.al else s.al;
       sii = written s.sii w.from w.bytes;
       link = dl_written s.link w.from w.bytes;
     } in
     let back = read_back s.link w.from w.bytes a in
-    elim (cases_Bool (in_memory a)) as (λ _. byte_at after a ≡ (if touches w a && (is_stored a || dl_stores s.link a) then slice_index w.bytes (a - w.from) else byte_at s a)) [
+    elim (cases_Bool (in_memory a)) as (λ _. byte_at after a ≡ (if touches w a && (keeps o a || dl_stores s.link a) then slice_index w.bytes (a - w.from) else byte_at s a)) [
       | inl m ↦
           let stored : is_stored a ≡ true = stored-in-memory a l ∙ m in
-          stored-reads after a l m ∙ elim (cases_Bool (touches w a)) as (λ _. slice_index (memory_written s.managers w s.memory) a ≡ (if touches w a && (is_stored a || dl_stores s.link a) then slice_index w.bytes (a - w.from) else byte_at s a)) [
-            | inl t ↦ at.taken t (kept-stored s.managers a l ∙ stored) ∙ sym (if_true _ _ _ (and_from _ _ t (or_left (is_stored a) _ stored)))
+          stored-reads after a l m ∙ elim (cases_Bool (touches w a)) as (λ _. slice_index (memory_written o s.managers w s.memory) a ≡ (if touches w a && (keeps o a || dl_stores s.link a) then slice_index w.bytes (a - w.from) else byte_at s a)) [
+            | inl t ↦ elim (cases_Bool (is_missing o a)) as (λ _. slice_index (memory_written o s.managers w s.memory) a ≡ (if touches w a && (keeps o a || dl_stores s.link a) then slice_index w.bytes (a - w.from) else byte_at s a)) [
+              | inl gone ↦
+                  let unkept : keeps o a ≡ false = if_true _ _ _ gone in
+                  let unstored : dl_stores s.link a ≡ false = unlinked s.link a m in
+                  at.missing gone ∙ (sym (stored-reads s a l m) ∙ sym (if_false _ _ _ (and_right (touches w a) _ (ap (λ (b : Bool). b || dl_stores s.link a) unkept ∙ unstored))))
+              | inr there ↦
+                  let kept : keeps o a ≡ true = if_false _ _ _ there ∙ stored in
+                  at.taken t there (kept-stored s.managers a l ∙ stored) ∙ sym (if_true _ _ _ (and_from _ _ t (or_left (keeps o a) _ kept)))
+            ]
             | inr t ↦ at.untouched t ∙ (sym (stored-reads s a l m) ∙ sym (if_false _ _ _ (and_left _ _ t)))
           ]
       | inr m ↦
           let r = requested-same (touches w 0x0120) s.al in
-          let plain : (is_stored a || dl_stores s.link a) ≡ dl_stores s.link a = ap (λ (b : Bool). b || dl_stores s.link a) (stored-in-memory a l ∙ m) in
-          elim (cases_Bool (touches w a && dl_stores s.link a)) as (λ _. byte_at after a ≡ (if touches w a && (is_stored a || dl_stores s.link a) then slice_index w.bytes (a - w.from) else byte_at s a)) [
+          let plain : (keeps o a || dl_stores s.link a) ≡ dl_stores s.link a = ap (λ (b : Bool). b || dl_stores s.link a) (unkept-by (is_missing o a) (is_stored a) (stored-in-memory a l ∙ m)) in
+          elim (cases_Bool (touches w a && dl_stores s.link a)) as (λ _. byte_at after a ≡ (if touches w a && (keeps o a || dl_stores s.link a) then slice_index w.bytes (a - w.from) else byte_at s a)) [
             | inl k ↦
                 let kept : dl_stores s.link a ≡ true = (and_parts (touches w a) _ k).1 in
                 link-reads after a (and_parts s.link.visible _ kept).1 ∙ (back ∙ (if_true _ _ _ k
                 ∙ sym (if_true _ _ _ (ap (λ (b : Bool). touches w a && b) plain ∙ k))))
             | inr k ↦
-                other-reads s after a l m r.0 r.1 (port-others s.sii (written s.sii w.from w.bytes) a out (written-found s.sii w.from w.bytes)) (back ∙ if_false _ _ _ k)
+                other-reads s after a refl l m r.0 r.1 (port-others s.sii (written s.sii w.from w.bytes) a out (written-found s.sii w.from w.bytes)) (back ∙ if_false _ _ _ k)
                 ∙ sym (if_false _ _ _ (ap (λ (b : Bool). touches w a && b) plain ∙ k))
           ]
     ]
@@ -241,13 +258,13 @@ unaccessed reads writes w own value m l = elim (cases_Bool (is_set m.settings)) 
 
 managers-written : (s : SlaveState) (reads : Bool) (w : Window) (n : ℕ) → n < length s.managers → w.from + length w.bytes ≤ ram_start
     → manager_at (physical_after s reads true w).managers n
-    ≡ (if is_configured w n then empty_manager (settings_written w n (manager_at s.managers n)) (manager_at s.managers n).locked else manager_at s.managers n)
+    ≡ (if is_configured s.kind.hardware w n then empty_manager (settings_written s.kind.hardware w n (manager_at s.managers n)) (manager_at s.managers n).locked else manager_at s.managers n)
 unfolding physical_after
 managers-written s reads w n i l =
     let m : SyncManager = manager_at s.managers n in
-    ap (λ (ms : List SyncManager). manager_at ms n) (physical_against_all reads true w s.managers)
+    ap (λ (ms : List SyncManager). manager_at ms n) (physical_against_all s.kind.hardware reads true w s.managers)
     ∙ (each-first _ s.managers n i
-    ∙ ap (λ (x : SyncManager). if is_configured w n then empty_manager (settings_written w n m) m.locked else x)
+    ∙ ap (λ (x : SyncManager). if is_configured s.kind.hardware w n then empty_manager (settings_written s.kind.hardware w n m) m.locked else x)
     (unaccessed reads true w (governs_among s.managers n) (value_among s.managers w n) m l))
 
 pub managers_after_write : ManagersAfterWrite

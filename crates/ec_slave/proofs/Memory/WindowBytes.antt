@@ -5,12 +5,14 @@ use Rattle.std.proofs.lemmas.Bool.{cases_lt, ltb-true, lt-ltb, le-ltb, or_left, 
 use Rattle.ec_bits.specs.Bits.{within}
 use Rattle.ec_bits.proofs.Overlays.{or_true}
 use Rattle.ec_bits.proofs.AnyLaws.{if_true, if_false, if_none, within_true, within_below, within_above}
+use Rattle.ec_device.specs.declared.hardware.Hardware.{Hardware}
 use Rattle.ec_regs.specs.Memory.{ram_start, ram_end, is_stored, takes_writes}
 use Rattle.ec_sync.specs.SyncManager.{SyncManager, may_read, may_write}
 use Rattle.ec_sync.specs.Governing.{covers, governor, in_first_buffer, visible_byte}
 use Rattle.ec_slave.specs.State.{SlaveState, manager_at}
 use Rattle.ec_slave.specs.Managers.{reads_under, writes_under}
-use Rattle.ec_slave.specs.Physical.{Window, touches, register_byte, ram_byte, byte_at, byte_from, byte_read, may_read_byte, may_write_byte, is_stored_at, updated_from}
+use Rattle.ec_slave.specs.Physical.{Window, touches, register_byte, ram_byte, byte_at, byte_from, byte_read, may_read_byte, may_write_byte, is_missing, is_stored_at, updated_from}
+use Rattle.ec_slave.proofs.Memory.MissingFmmus.{skipped}
 use Rattle.ec_slave.proofs.Memory.UpdatedAlong.{updated_along, get-updated_outside, updated-alike, updated-none}
 
 pub from-outside : (w : Window) (a : ℕ) → (a < w.from) ⊎ (w.from + length w.bytes ≤ a) → byte_from w a ≡ None
@@ -33,6 +35,13 @@ kept-inside ms w i h = ap (λ o. if is_stored_at ms (w.from + i) then o else Non
 
 pub kept-outside : (ms : List SyncManager) (w : Window) (a : ℕ) → (a < w.from) ⊎ (w.from + length w.bytes ≤ a) → kept_byte ms w a ≡ None
 kept-outside ms w a h = if_none _ _ (from-outside w a h)
+
+-- the same of a slave of a type, which may lack FMMUs
+abbrev pub taken_byte : Option Hardware → List SyncManager → Window → ℕ → Option ℕ
+taken_byte o ms w a = if is_missing o a then None else kept_byte ms w a
+
+pub taken-outside : (o : Option Hardware) (ms : List SyncManager) (w : Window) (a : ℕ) → (a < w.from) ⊎ (w.from + length w.bytes ≤ a) → taken_byte o ms w a ≡ None
+taken-outside o ms w a h = skipped (is_missing o a) (kept_byte ms w a) (kept-outside ms w a h)
 
 -- a datagram of which the memory itself keeps all bytes
 pub all-kept : (ms : List SyncManager) (w : Window) (memory : List ℕ) → ((a : ℕ) → w.from ≤ a → a < w.from + length w.bytes → is_stored_at ms a ≡ true)

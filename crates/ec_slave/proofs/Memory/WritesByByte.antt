@@ -1,26 +1,29 @@
 -- Reads and writes byte by byte, and what they count.
 use Rattle.std.proofs.Common.{ℕ, ◌+◌, ◌*◌, ◌<◌, ◌≡◌, if◌then◌else◌, List, length, Bool, true, false, slice_index, Option, unwrap_or, refl, ◌∙◌, ap}
 use Rattle.std.specs.Int.{from_bool}
+use Rattle.ec_device.specs.declared.hardware.Hardware.{Hardware}
 use Rattle.ec_slave.specs.declared.role.Role.TheVariants.{Nothing, Read, Write, ReadWrite, OrRead, OrReadWrite}
 use Rattle.ec_sync.specs.SyncManager.{SyncManager}
-use Rattle.ec_slave.specs.Physical.{Window, byte_read, some_byte_read, is_written, physical_met}
-use Rattle.ec_slave.proofs.Memory.WindowBytes.{kept_byte}
+use Rattle.ec_slave.specs.Physical.{Window, byte_read, is_missing, some_byte_read, is_written, physical_met}
+use Rattle.ec_slave.proofs.Memory.WindowBytes.{taken_byte}
+use Rattle.ec_slave.proofs.Memory.MissingFmmus.{skipped}
 use Rattle.ec_slave.specs.Keeping.{length-updated}
 use Rattle.ec_slave.specs.Laws.{WritesByByte, IsWrittenAt, ReadsByByte, CountsByRole}
 use Rattle.ec_bits.proofs.AnyLaws.{if_true, if_false, if_none}
 use Rattle.ec_slave.proofs.Memory.UpdatedAlong.{get-updated0}
 
-pub written_at : (ms : List SyncManager) (w : Window) (memory : List ℕ) (a : ℕ) → a < length memory → IsWrittenAt ms w memory a
-written_at ms w memory a l =
-    let own = get-updated0 memory (kept_byte ms w) a l in
+pub written_at : (o : Option Hardware) (ms : List SyncManager) (w : Window) (memory : List ℕ) (a : ℕ) → a < length memory → IsWrittenAt o ms w memory a
+written_at o ms w memory a l =
+    let own = get-updated0 memory (taken_byte o ms w) a l in
     record {
-      taken = λ t m. own ∙ ap (λ (o : Option ℕ). unwrap_or o (slice_index memory a)) (if_true _ _ _ m ∙ if_true _ _ _ t);
-      refused = λ m. own ∙ ap (λ (o : Option ℕ). unwrap_or o (slice_index memory a)) (if_false _ _ _ m);
-      untouched = λ t. own ∙ ap (λ (o : Option ℕ). unwrap_or o (slice_index memory a)) (if_none _ _ (if_false _ _ _ t));
+      taken = λ t h m. own ∙ ap (λ (b : Option ℕ). unwrap_or b (slice_index memory a)) (if_false _ _ _ h ∙ (if_true _ _ _ m ∙ if_true _ _ _ t));
+      missing = λ h. own ∙ ap (λ (b : Option ℕ). unwrap_or b (slice_index memory a)) (if_true _ _ _ h);
+      refused = λ m. own ∙ ap (λ (b : Option ℕ). unwrap_or b (slice_index memory a)) (skipped (is_missing o a) _ (if_false _ _ _ m));
+      untouched = λ t. own ∙ ap (λ (b : Option ℕ). unwrap_or b (slice_index memory a)) (skipped (is_missing o a) _ (if_none _ _ (if_false _ _ _ t)));
     }
 
 pub writes_by_byte : WritesByByte
-writes_by_byte ms w memory = (length-updated 0 memory (kept_byte ms w), written_at ms w memory)
+writes_by_byte o ms w memory = (length-updated 0 memory (taken_byte o ms w), written_at o ms w memory)
 
 pub reads_by_byte : ReadsByByte
 reads_by_byte s joining w k l =

@@ -1,16 +1,20 @@
 //! Which bytes a physical datagram reads and writes, and what it leaves in the memory itself.
 
-ghost use Rattle.std.specs.Prelude.{◌≡◌, ◌+◌, ◌-◌, ◌<◌, ◌≤◌, ◌^◌, ℕ, Bool, List, if◌then◌else◌, bit_or, length, slice_index, Some, None, IfSome};
+ghost use Rattle.std.specs.Prelude.{◌≡◌, ◌+◌, ◌-◌, ◌<◌, ◌≤◌, ◌^◌, ◌&&◌, ℕ, Bool, List, Option, if◌then◌else◌, nat_le, nat_lt, bit_or, length, slice_index, Some, None, IfSome};
 ghost use Rattle.std.specs.Bool.{OnTrue};
 ghost use Rattle.ec_bits.specs.Bits.{within};
+ghost use Rattle.ec_device.specs.declared.hardware.Hardware.{Hardware};
 ghost use Rattle.ec_regs.specs.Memory.{fmmu_start, ram_start, ram_end};
 ghost use Rattle.ec_sync.specs.Governing.{governor as governor_of};
 ghost use Rattle.ec_sync.specs.SyncManager.{SyncManager};
-ghost use Rattle.ec_slave.specs.Physical.{byte_from, is_stored_at, may_read_byte, may_write_byte, memory_written, updated, some_byte_written};
+ghost use Rattle.ec_slave.specs.Physical.{byte_from, is_missing, is_stored_at, may_read_byte, may_write_byte, memory_written, updated, some_byte_written};
 
 use crate::runs::{cut, end_of_alike};
+use ec_device::SlaveType;
 use ec_exchange::owner_of;
-use ec_regs::registers::{FMMUS, FMMUS_END, RAM_END, RAM_START, SYNC_MANAGERS, SYNC_MANAGERS_END};
+use ec_regs::registers::{
+    FMMU_SIZE, FMMUS, FMMUS_END, RAM_END, RAM_START, SYNC_MANAGERS, SYNC_MANAGERS_END,
+};
 use ec_regs::{is_stored, takes_writes};
 use ec_sync::SyncManager;
 
@@ -65,9 +69,10 @@ pub(crate) fn end_of_part(managers: &[SyncManager], start: usize, end: usize) ->
     end_of_alike(managers, start, stop)
 }
 
-/// Writes the bytes of a datagram into the memory itself, and returns whether one is written there or behind a manager.
-/// It finds once for each part who governs bytes of the RAM and whether they may be written: all of the part, or none, are.
-pub(crate) fn write_physical(
+/// Writes the bytes of a datagram into the memory itself of a slave of a type, and returns whether one is written there or
+/// behind a manager. The registers of FMMUs that the slave lacks take none.
+pub(crate) fn write_memory(
+    kind: &SlaveType,
     memory: &mut [u8],
     managers: &[SyncManager],
     is_busy: bool,
@@ -76,8 +81,61 @@ pub(crate) fn write_physical(
 ) -> bool
     requires room { length memory.old ≡ ram_end }
     requires small { from + length bytes.now < 2 ^ 32 }
-    ensures memory { memory.new ≡ memory_written managers.now (record { from = from; bytes = bytes.now }) memory.old }
-    ensures some { result ≡ some_byte_written managers.now is_busy (record { from = from; bytes = bytes.now }) }
+    requires few { length bytes.now < 2048 }
+    ensures memory { memory.new ≡ memory_written kind.now.hardware managers.now (record { from = from; bytes = bytes.now }) memory.old }
+    ensures some { result ≡ some_byte_written kind.now.hardware managers.now is_busy (record { from = from; bytes = bytes.now }) }
+{
+    let missing = FMMUS + FMMU_SIZE * usize::from(kind.fmmu_count());
+    if reaches(missing, from, bytes.len()) {
+        return write_around(memory, missing, is_busy, from, bytes);
+    }
+    write_physical(memory, managers, is_busy, from, bytes)
+}
+
+/// Whether a datagram over the `len` bytes that begin at `from` reaches registers of FMMUs that the slave lacks: those from
+/// `missing` on.
+fn reaches(missing: usize, from: usize, len: usize) -> bool
+    requires { from + len < 2 ^ 32 }
+    ensures { result ≡ ((nat_lt missing (fmmu_start 4) && nat_lt from (fmmu_start 4)) && nat_lt missing (from + len)) }
+{
+    missing < FMMUS_END && from < FMMUS_END && missing < from + len
+}
+
+/// Writes the bytes of a datagram that reaches over registers of FMMUs, of which those from `missing` on take none, and returns
+/// whether one is written: what lies before them, and what lies behind them.
+fn write_around(memory: &mut [u8], missing: usize, is_busy: bool, from: usize, bytes: &[u8]) -> bool
+    requires room { length memory.old ≡ ram_end }
+    requires few { length bytes.now < 2048 }
+    requires first { fmmu_start 0 ≤ missing }
+    requires last { missing < fmmu_start 4 }
+    requires low { from < fmmu_start 4 }
+    requires high { missing < from + length bytes.now }
+    ensures memory { (o : Option Hardware) (ms : List SyncManager) → ((a : ℕ) → is_missing o a ≡ (nat_le missing a && nat_lt a (fmmu_start 4)))
+        → memory.new ≡ memory_written o ms (record { from = from; bytes = bytes.now }) memory.old }
+    ensures some { (o : Option Hardware) (ms : List SyncManager) (busy : Bool) → busy ≡ is_busy
+        → ((a : ℕ) → is_missing o a ≡ (nat_le missing a && nat_lt a (fmmu_start 4)))
+        → result ≡ some_byte_written o ms busy (record { from = from; bytes = bytes.now }) }
+{
+    let before = missing.saturating_sub(from);
+    let behind = (FMMUS_END - from).min(bytes.len());
+    let is_before = write_registers(memory, is_busy, from, &bytes[..before]);
+    let is_behind = write_registers(memory, is_busy, FMMUS_END, &bytes[behind..]);
+    is_before | is_behind
+}
+
+/// Writes the bytes of a datagram into the memory itself, and returns whether one is written there or behind a manager.
+/// It finds once for each part who governs bytes of the RAM and whether they may be written: all of the part, or none, are.
+fn write_physical(
+    memory: &mut [u8],
+    managers: &[SyncManager],
+    is_busy: bool,
+    from: usize,
+    bytes: &[u8],
+) -> bool
+    requires room { length memory.old ≡ ram_end }
+    requires small { from + length bytes.now < 2 ^ 32 }
+    ensures memory { memory.new ≡ memory_written None managers.now (record { from = from; bytes = bytes.now }) memory.old }
+    ensures some { result ≡ some_byte_written None managers.now is_busy (record { from = from; bytes = bytes.now }) }
 {
     if from + bytes.len() <= RAM_START {
         return write_registers(memory, is_busy, from, bytes);
@@ -222,8 +280,8 @@ fn write_fmmus(memory: &mut [u8], from: usize, bytes: &[u8]) -> bool
     requires room { length memory.old ≡ ram_end }
     requires low { fmmu_start 0 ≤ from }
     requires high { from + length bytes.now ≤ fmmu_start 4 }
-    ensures memory { (ms : List SyncManager) → memory.new ≡ memory_written ms (record { from = from; bytes = bytes.now }) memory.old }
-    ensures some { (ms : List SyncManager) (busy : Bool) → result ≡ some_byte_written ms busy (record { from = from; bytes = bytes.now }) }
+    ensures memory { (ms : List SyncManager) → memory.new ≡ memory_written None ms (record { from = from; bytes = bytes.now }) memory.old }
+    ensures some { (ms : List SyncManager) (busy : Bool) → result ≡ some_byte_written None ms busy (record { from = from; bytes = bytes.now }) }
 {
     store_slice(memory, from, bytes);
     !bytes.is_empty()
@@ -233,7 +291,7 @@ fn write_fmmus(memory: &mut [u8], from: usize, bytes: &[u8]) -> bool
 fn store_each(memory: &mut [u8], from: usize, bytes: &[u8])
     requires room { length memory.old ≡ ram_end }
     requires inside { from + length bytes.now ≤ ram_start }
-    ensures { (ms : List SyncManager) → memory.new ≡ memory_written ms (record { from = from; bytes = bytes.now }) memory.old }
+    ensures { (ms : List SyncManager) → memory.new ≡ memory_written None ms (record { from = from; bytes = bytes.now }) memory.old }
 {
     for (i, byte) in bytes.iter().enumerate() {
         let address = from + i;
@@ -248,7 +306,7 @@ fn store_each(memory: &mut [u8], from: usize, bytes: &[u8])
 fn store_registers(memory: &mut [u8], from: usize, bytes: &[u8])
     requires room { length memory.old ≡ ram_end }
     requires inside { from + length bytes.now ≤ ram_start }
-    ensures { (ms : List SyncManager) → memory.new ≡ memory_written ms (record { from = from; bytes = bytes.now }) memory.old }
+    ensures { (ms : List SyncManager) → memory.new ≡ memory_written None ms (record { from = from; bytes = bytes.now }) memory.old }
 {
     if from < SYNC_MANAGERS || SYNC_MANAGERS_END < from + bytes.len() {
         store_each(memory, from, bytes);
@@ -258,7 +316,7 @@ fn store_registers(memory: &mut [u8], from: usize, bytes: &[u8])
 /// Whether one of the bytes of a datagram that lies within the registers is written. The first usually is.
 fn takes_some(is_busy: bool, from: usize, bytes: &[u8]) -> bool
     requires { from + length bytes.now ≤ ram_start }
-    ensures { (ms : List SyncManager) → result ≡ some_byte_written ms is_busy (record { from = from; bytes = bytes.now }) }
+    ensures { (ms : List SyncManager) → result ≡ some_byte_written None ms is_busy (record { from = from; bytes = bytes.now }) }
 {
     for i in 0..bytes.len() {
         if takes_writes(from + i, is_busy) {
@@ -273,8 +331,8 @@ fn takes_some(is_busy: bool, from: usize, bytes: &[u8]) -> bool
 fn write_registers(memory: &mut [u8], is_busy: bool, from: usize, bytes: &[u8]) -> bool
     requires room { length memory.old ≡ ram_end }
     requires inside { from + length bytes.now ≤ ram_start }
-    ensures memory { (ms : List SyncManager) → memory.new ≡ memory_written ms (record { from = from; bytes = bytes.now }) memory.old }
-    ensures some { (ms : List SyncManager) → result ≡ some_byte_written ms is_busy (record { from = from; bytes = bytes.now }) }
+    ensures memory { (ms : List SyncManager) → memory.new ≡ memory_written None ms (record { from = from; bytes = bytes.now }) memory.old }
+    ensures some { (ms : List SyncManager) → result ≡ some_byte_written None ms is_busy (record { from = from; bytes = bytes.now }) }
 {
     if FMMUS <= from && from + bytes.len() <= FMMUS_END {
         return write_fmmus(memory, from, bytes);

@@ -1,18 +1,19 @@
 //! What a physical datagram does to the sync managers.
 
-ghost use Rattle.std.specs.Prelude.{◌≡◌, ◌+◌, ◌-◌, ◌<◌, ◌≤◌, ◌*◌, ℕ, length, [], unwrap_or, true};
+ghost use Rattle.std.specs.Prelude.{◌≡◌, ◌+◌, ◌-◌, ◌<◌, ◌≤◌, ◌*◌, ◌^◌, ℕ, length, [], unwrap_or, true};
 ghost use Rattle.ec_bits.specs.Bits.{within, zeros};
 ghost use Rattle.ec_regs.specs.Memory.{ram_end};
 ghost use Rattle.ec_sync.specs.Governing.{manager_byte};
 ghost use Rattle.ec_slave.specs.Managers.{is_ungoverned, manager_after};
-ghost use Rattle.ec_slave.specs.Physical.{is_configured as is_configured_at, physical_manager, physical_managers, setting_for, settings_written, touches, physical_value};
+ghost use Rattle.ec_slave.specs.Physical.{as_shown, is_configured as is_configured_at, physical_manager, physical_managers, setting_at, settings_written, touches, physical_value};
 
+use crate::numbers::{first_register, register_of};
 use crate::physical::bytes::byte_for;
 use crate::runs::are_ungoverned;
 use ec_bits::within;
+use ec_device::SlaveType;
 use ec_exchange::{governor, read_manager, write_manager};
-use ec_regs::registers::manager_address;
-use ec_regs::{SyncManagerSettings, decode_manager, is_stored};
+use ec_regs::{SyncManagerSettings, decode_manager, is_stored, shown_manager};
 use ec_sync::{Reach, SyncManager, Touching, Writing};
 
 /// The bytes of a datagram as a manager takes them whose lower-numbered managers are `lower`.
@@ -89,6 +90,7 @@ impl Bytes<'_> {
 /// Each of the four managers meets a datagram, from the last to the first, so that each finds the lower-numbered ones as
 /// they were.
 pub(crate) fn access_managers(
+    kind: &SlaveType,
     managers: &mut [SyncManager],
     reads: bool,
     writes: bool,
@@ -96,12 +98,12 @@ pub(crate) fn access_managers(
     bytes: &[u8],
 )
     requires { length managers.old ≡ 4 }
-    ensures { managers.new ≡ physical_managers [] reads writes (record { from = from; bytes = bytes.now }) 0 managers.old }
+    ensures { managers.new ≡ physical_managers kind.now.hardware [] reads writes (record { from = from; bytes = bytes.now }) 0 managers.old }
 {
     for k in 0..4 {
         let place = 3 - k;
         let (lower, rest) = managers.split_at_mut(place);
-        access_manager(lower, &mut rest[0], place, reads, writes, from, bytes);
+        access_manager(kind, lower, &mut rest[0], place, reads, writes, from, bytes);
     }
 }
 
@@ -129,19 +131,20 @@ fn take_access(
 /// One manager meets a datagram.
 #[tactic(auto, unfolding(crate::specs::Physical::physical_manager))]
 fn access_manager(
+    kind: &SlaveType,
     lower: &[SyncManager],
     manager: &mut SyncManager,
-    number: usize,
+    place: usize,
     reads: bool,
     writes: bool,
     from: usize,
     bytes: &[u8],
 )
-    requires { number < 4 }
-    ensures { manager.new ≡ physical_manager lower.now reads writes (record { from = from; bytes = bytes.now }) number manager.old }
+    requires { place < 4 }
+    ensures { manager.new ≡ physical_manager kind.now.hardware lower.now reads writes (record { from = from; bytes = bytes.now }) place manager.old }
 {
-    if writes && is_configured(from, bytes, number) {
-        let settings = settings_after(manager, from, bytes, number);
+    if writes && is_configured(kind, from, bytes, place) {
+        let settings = settings_after(kind, manager, from, bytes, place);
         manager.configure(settings);
     } else {
         take_access(lower, manager, reads, writes, from, bytes);
@@ -150,58 +153,65 @@ fn access_manager(
 
 /// The settings of a manager after a datagram.
 fn settings_after(
+    kind: &SlaveType,
     manager: &SyncManager,
     from: usize,
     bytes: &[u8],
-    number: usize,
+    place: usize,
 ) -> SyncManagerSettings
-    requires { number < 4 }
-    ensures { result ≡ settings_written (record { from = from; bytes = bytes.now }) number manager.now }
+    requires { place < 4 }
+    ensures { result ≡ settings_written kind.now.hardware (record { from = from; bytes = bytes.now }) place manager.now }
 {
-    decode_manager(&[
-        byte_after(manager, from, bytes, number, 0),
-        byte_after(manager, from, bytes, number, 1),
-        byte_after(manager, from, bytes, number, 2),
-        byte_after(manager, from, bytes, number, 3),
-        byte_after(manager, from, bytes, number, 4),
-        byte_after(manager, from, bytes, number, 5),
-        byte_after(manager, from, bytes, number, 6),
-        byte_after(manager, from, bytes, number, 7),
-    ])
+    let first = first_register(kind, place);
+    let registers = [
+        byte_after(kind, manager, from, bytes, first, 0),
+        byte_after(kind, manager, from, bytes, first, 1),
+        byte_after(kind, manager, from, bytes, first, 2),
+        byte_after(kind, manager, from, bytes, first, 3),
+        byte_after(kind, manager, from, bytes, first, 4),
+        byte_after(kind, manager, from, bytes, first, 5),
+        byte_after(kind, manager, from, bytes, first, 6),
+        byte_after(kind, manager, from, bytes, first, 7),
+    ];
+    shown_manager(kind, decode_manager(&registers))
 }
 
-/// Byte k of a manager's eight after a datagram.
-fn byte_after(manager: &SyncManager, from: usize, bytes: &[u8], number: usize, k: usize) -> u8
-    requires manager { number < 4 }
+/// Byte k of a manager's eight, which begin at `first`, after a datagram.
+fn byte_after(
+    kind: &SlaveType,
+    manager: &SyncManager,
+    from: usize,
+    bytes: &[u8],
+    first: usize,
+    k: usize,
+) -> u8
+    requires registers { first < 2 ^ 16 }
     requires byte { k < 8 }
-    ensures { result ≡ unwrap_or (setting_for (record { from = from; bytes = bytes.now }) number k) (manager_byte manager.now k) }
+    ensures { result ≡ unwrap_or (setting_at (record { from = from; bytes = bytes.now }) (first + k)) (manager_byte (as_shown kind.now.hardware manager.now) k) }
 {
-    setting_for(from, bytes, number, k).unwrap_or(manager.register(k))
+    setting_for(from, bytes, first + k).unwrap_or(register_of(kind, manager, k))
 }
 
-/// Whether a datagram writes one of the settings of a manager.
-fn is_configured(from: usize, bytes: &[u8], number: usize) -> bool
-    requires { number < 4 }
-    ensures { result ≡ is_configured_at (record { from = from; bytes = bytes.now }) number }
+/// Whether a datagram writes one of the settings of the manager at a place.
+fn is_configured(kind: &SlaveType, from: usize, bytes: &[u8], place: usize) -> bool
+    requires { place < 4 }
+    ensures { result ≡ is_configured_at kind.now.hardware (record { from = from; bytes = bytes.now }) place }
 {
-    let first = manager_address(number);
+    let first = first_register(kind, place);
     if first + 8 <= from || from.saturating_add(bytes.len()) <= first {
         return false;
     }
     let mut is_some = false;
     for k in 0..8 {
-        is_some |= setting_for(from, bytes, number, k).is_some();
+        is_some |= setting_for(from, bytes, first + k).is_some();
     }
     is_some
 }
 
-/// What a datagram stores in byte k of a manager's eight.
-fn setting_for(from: usize, bytes: &[u8], number: usize, k: usize) -> Option<u8>
-    requires manager { number < 4 }
-    requires byte { k < 8 }
-    ensures { result ≡ setting_for (record { from = from; bytes = bytes.now }) number k }
+/// What a datagram stores in a register of a manager.
+fn setting_for(from: usize, bytes: &[u8], address: usize) -> Option<u8>
+    ensures { result ≡ setting_at (record { from = from; bytes = bytes.now }) address }
 {
-    let address = manager_address(number) + k;
     if is_stored(address) {
         byte_for(from, bytes, address)
     } else {

@@ -1,12 +1,12 @@
 -- What the headline names as a cause does keep a unit from being taken.
-use Rattle.ec_world.proofs.Words.{ℕ, ◌+◌, ◌<◌, ◌≡◌, Bool, true, false, Some, None, refl, sym, ◌∙◌, ap, subst, inl, inr, arith, List, [], ◌∷◌, ◌++◌, length, is_some, if◌then◌else◌, get_or-set_same, unwrap_or, Option, get_or, set, option_map, cases_Bool, and_from, lt-ltb, eq-eqb, true≢false, Identity, SafeOp, Op, if_true, faults, SlaveState, faulted, Contents, Share, unit_of_part as unit_of_plain, has_outs, Meaning, meaning, share_of, slave_at as settings_of, PlanState, plan_of, plan_sound, Event, Begin, Lose, Close, Fault, Pass, Return, ResetSlave, Progress, Faulted, Cycle, unit_full, step, run, plain_slave, with_slot, Plain, PlainSlave, PlainFrame, Health, Working, Reset, Full, frame_at, moved, keeping, new_frames, met_slave, may_pass, may_return, all_progress, progress_of, linked_outputs, WorldState, slave_of, no_slave, flight_at, is_up, is_slave, with_slave, IsStep, PromisesIsQuiet as IsQuiet, is_of_unit, holds_of_unit, unit_of_slave, IsNoted, IsNotedAt, disturbs, unit_of, headline_unit_of_part as unit_of_part, output_bits, IsInOp, variable_bit, input_bit, ShowsLinked, IsSpoiled, LossLaw, EarlyLaw, ShortLaw, cycle_of, Rests, IsExchanged, UndisturbedLaw, list_all, length-map, bit, Buffer, outputs_shown, published, In, PartPlan, image_from, IsLinked, IsUsable, IsAs, IsRun, none_some}
+use Rattle.ec_world.proofs.Words.{ℕ, ◌+◌, ◌<◌, ◌≡◌, Bool, true, false, Some, None, refl, sym, ◌∙◌, ap, subst, inl, inr, arith, List, [], ◌∷◌, ◌++◌, length, is_some, if◌then◌else◌, get_or-set_same, unwrap_or, Option, get_or, set, option_map, cases_Bool, and_from, lt-ltb, eq-eqb, true≢false, Identity, SafeOp, Op, if_true, faults, SlaveState, faulted, Contents, Share, unit_of_part as unit_of_plain, has_outs, Meaning, meaning, share_of, slave_at as settings_of, PlanState, plan_of, plan_sound, Event, Begin, Lose, Close, Fault, Pass, Return, ResetSlave, Progress, Faulted, Cycle, unit_full, step, run, plain_slave, with_slot, Plain, PlainSlave, PlainFrame, Health, Working, Reset, Full, frame_at, moved, keeping, new_frames, met_slave, may_pass, may_return, all_progress, progress_of, linked_outputs, WorldState, slave_of, no_slave, flight_at, is_up, is_slave, with_slave, IsStep, PromisesIsQuiet as IsQuiet, is_of_unit, holds_of_unit, unit_of_slave, IsNoted, IsNotedAt, disturbs, unit_of, headline_unit_of_part as unit_of_part, output_bits, IsInOp, variable_bit, input_bit, ShowsLinked, IsSpoiled, LossLaw, EarlyLaw, ShortLaw, cycle_of, Rests, IsExchanged, UndisturbedLaw, list_all, length-map, bit, Buffer, outputs_shown, published, In, PartPlan, image_from, IsLinked, IsUsable, IsAs, IsRun, none_some, HasRoom}
 use Rattle.ec_world.proofs.Refinement.Close.{unit_is as part_unit}
 use Rattle.ec_al.specs.Al as al
 use Rattle.ec_world.proofs.Headline.Buffers.{published_is}
 use Rattle.ec_world.proofs.Refinement.CyclicFrame.{share_is}
 use Rattle.ec_world.proofs.Refinement.StepsRefine.{runs_join}
 use Rattle.ec_world.proofs.Cycles.QuietLaw.{in_parts, quiet_law, in_op_whole}
-use Rattle.ec_world.proofs.Headline.LinkedBits.{health_is, outs_are, op_works, ShownAs, shown_as, shows_linked}
+use Rattle.ec_world.proofs.Headline.LinkedBits.{health_is, outs_room, op_works, ShownAs, shown_as, shows_linked}
 use Rattle.ec_world.proofs.Headline.HeadlineLaw.{slave_unit, inputs_held, BitIn, bit_in}
 use Rattle.ec_world.proofs.Cycles.AtRest.{Comes, comes_of, IsFree, free_of, Beginning, beginning, is_begun, rounds, going, AtClose, at_close, told_of, FrameOf, frame_of, left_over, get_nones}
 use Rattle.ec_world.proofs.Runs.Leaves.{guarded_map, met_leaves}
@@ -157,8 +157,9 @@ short_law t ids w r s l some v made run_on = record {
     in_t : s < length (plan_of t).slaves
     in_t = let n = ap (λ (z : PlanState). length z.slaves) b.w_plan in let y = in_x in omega (arith, n, y)
 
-    outs : (share_of m s).outs ≡ output_bits t s
-    outs = ap (λ (z : Share). z.outs) (share_is x.plan s) ∙ (ap (λ (z : PlanState). (settings_of z s).share.outs) b.w_plan ∙ outs_are t (plan_sound t r.new.sound r.new.accepted) s in_t)
+    outs : HasRoom (share_of m s).outs (output_bits t s)
+    outs = subst (λ (n : ℕ). HasRoom n (output_bits t s)) (sym (ap (λ (z : Share). z.outs) (share_is x.plan s) ∙ ap (λ (z : PlanState). (settings_of z s).share.outs) b.w_plan))
+        (outs_room t (plan_sound t r.new.sound r.new.accepted) s in_t)
 
     health : (plain_slave b.p s).health ≡ Faulted
     health = health_is s (settings_of x.plan s) (slave_of x s) (plain_slave b.p s) (plain_slave b.p s).health Faulted (b.shown.slaves s in_x)
@@ -169,7 +170,7 @@ short_law t ids w r s l some v made run_on = record {
 
     off : unit_full m c (unit_of t s) ≡ false
     off = not_full t x b (rounds t) c (unit_of t s) (going t x b).after.is_open (going t x b).after.number_is
-        (λ q. q.whole s in_p unit (inr (health, lt-ltb 0 (share_of m s).outs (let y = outs in omega (arith, some, y)))))
+        (λ q. q.whole s in_p unit (inr (health, lt-ltb 0 (share_of m s).outs (let y = outs.room in omega (arith, some, y)))))
 
 -- ---- a cycle of a Ready world at rest that nothing disturbs is taken in every unit, and each slave shows its linked outputs
 

@@ -28,10 +28,14 @@ buffer_kept s n b l =
     ∙ (published_is (record s { managers = set s.managers n m }) n
     ∙ ap (λ (x : SyncManager). x.buffer.published) (get_or-set_same s.managers n m no_manager l))
 
-pub only_publishes : (s : SlaveState) (value : List ℕ) (new : SlaveState) → 2 < length s.managers → new ≡ with_outputs s value → OnlyPublishes s 2 value new
-only_publishes s value new l e =
-    let b : Buffer = (manager_at s.managers 2).buffer in
-    record { buffer = b; there = buffer_is s 2 l; is = e ∙ sym (with_buffer_is s 2 (record b { published = value }) l) }
+pub only_publishes : (s : SlaveState) (value : List ℕ) (new : SlaveState) → 2 < length s.managers → (manager_at s.managers 2).awaited ≡ false → new ≡ with_outputs s value → OnlyPublishes s 2 value new
+only_publishes s value new l free e =
+    let m : SyncManager = manager_at s.managers 2 in
+    let b : Buffer = m.buffer in
+    let c : Buffer = record b { published = value } in
+    let same : with_outputs s value ≡ record s { managers = set s.managers 2 (record m { buffer = c }) }
+    = ap (λ (x : Bool). record s { managers = set s.managers 2 (record m { buffer = c; awaited = x }) }) (sym free) in
+    record { buffer = b; there = buffer_is s 2 l; is = e ∙ (same ∙ sym (with_buffer_is s 2 c l)) }
 
 -- ---- a byte that an application writes
 

@@ -1,5 +1,5 @@
 -- The headline of a close, of what a world's calls show.
-use Rattle.ec_world.proofs.Words.{Stop, ℕ, zero, suc, ◌+◌, ◌*◌, ◌<◌, ◌≤◌, ◌≡◌, ◌≢◌, ◌==◌, ◌||◌, Bool, true, false, Option, Some, None, refl, sym, ◌∙◌, ap, subst, inl, inr, arith, List, [], ◌∷◌, ◌++◌, length, map, get_or, if◌then◌else◌, option_map, option_and_then, slice_get, option_map_or, AllByRecursion, bit_at, cases_Bool, cases_lt, cases_eq, and_from, or_left, or_right, or_cases, lt-ltb, ltb-true, eq-eqb, true≢false, append_assoc, list_get_or-map as get_or-map, length-map, length-replicate, slice_get-get_or, bit_at_above, bit, bytes_of_bits, if_true, if_false, bits_number-lt, bit_at-bits_number, Identity, Buffer, SlaveState, inputs_of, published, Direction, Out, In, SlaveRow, Contents, Variable, Share, SlavePlan, has_outs, has_ins, predicted, unit_of_part as unit_of_plain, IsLinked, is_out, image_from, IsPair, AreItsLinks, Meaning, Linked, meaning, share_of, in_source, slave_at as settings_of, PlanState, plan_of, part_of, part_at, IsUsable, IsInImage, HasBit, IsPlaced, linked_inputs, variables_are_placed, linked_bits_are_there, plan_sound, links_are_the_tables, lists_units, bits_are_apart, ReportState, MasterState, OpenCycle, ReturnedPart, value_at, value_of, Event, StartNext, Set, Begin, Pass, Lose, Return, Close, Serve, AppPut, AppGet, Fault, ResetSlave, Progress, Plain, PlainSlave, PlainFrame, Health, Faulted, Reset, Note, Short, Full, Cycle, unit_full, giving, step, run, frame_at, plain_slave, progress_of, met_note, WorldState, slave_of, is_up, ByStart, GivesUp, Closes, IsStep, IsAs, Refines, CyclesRefine, IsRun, IsNew, plain_of, IsNoted, IsMissed as IsMissedPlain, NotBack, FellShort as FellShortAt, FallsShort, IsClosedAs, IsNotedAt, IsBegun as IsBegunPlain, PromisesIsQuiet as IsQuiet, unit_of_slave, is_of_unit, holds_of_unit, IsMade, HeadlineIsBegun as IsBegun, HasLost, IsUnderWay, HadTrouble, IsInOp, progress_at, variable_bit, output_bits, input_bits, GivesLess, unit_of, headline_unit_of_part as unit_of_part, Says, IsRead, HeadlineIsTaken as IsTaken, HeadlineFellShort as FellShort, Cause, ByLoss, ByEarlyClose, ByFallingShort, HeadlineIsMissed as IsMissed, ListsUnits, CloseShows, HeadlineLaw, EachIsPromised, same_progress, none_some, some_same, plain_frame, some_of, HeadlineShows}
+use Rattle.ec_world.proofs.Words.{Stop, ℕ, zero, suc, ◌+◌, ◌*◌, ◌<◌, ◌≤◌, ◌≡◌, ◌≢◌, ◌==◌, ◌||◌, Bool, true, false, Option, Some, None, refl, sym, ◌∙◌, ap, subst, inl, inr, arith, List, [], ◌∷◌, ◌++◌, length, map, get_or, if◌then◌else◌, option_map, option_and_then, slice_get, option_map_or, AllByRecursion, bit_at, cases_Bool, cases_lt, cases_eq, and_from, or_left, or_right, or_cases, lt-ltb, ltb-true, eq-eqb, true≢false, append_assoc, list_get_or-map as get_or-map, length-map, length-replicate, slice_get-get_or, bit_at_above, bit, bytes_of_bits, if_true, if_false, bits_number-lt, bit_at-bits_number, Identity, Buffer, SlaveState, inputs_of, published, Direction, Out, In, SlaveRow, Contents, Variable, Share, SlavePlan, has_outs, has_ins, predicted, unit_of_part as unit_of_plain, IsLinked, is_out, image_from, IsPair, AreItsLinks, Meaning, Linked, meaning, share_of, in_source, slave_at as settings_of, PlanState, plan_of, part_of, part_at, IsUsable, IsInImage, HasBit, IsPlaced, linked_inputs, variables_are_placed, linked_bits_are_there, plan_sound, links_are_the_tables, lists_units, bits_are_apart, ReportState, MasterState, OpenCycle, ReturnedPart, value_at, value_of, Event, StartNext, Set, Begin, Pass, Lose, Return, Close, Serve, AppPut, AppGet, Fault, ResetSlave, Progress, Plain, PlainSlave, PlainFrame, Health, Faulted, Reset, Note, Short, Full, Cycle, unit_full, giving, step, run, frame_at, plain_slave, progress_of, met_note, WorldState, slave_of, is_up, ByStart, GivesUp, Closes, IsStep, IsAs, Refines, CyclesRefine, IsRun, IsNew, plain_of, IsNoted, IsMissed as IsMissedPlain, NotBack, FellShort as FellShortAt, FallsShort, IsClosedAs, IsNotedAt, IsBegun as IsBegunPlain, PromisesIsQuiet as IsQuiet, unit_of_slave, is_of_unit, holds_of_unit, IsMade, HeadlineIsBegun as IsBegun, HasLost, IsUnderWay, HadTrouble, IsInOp, progress_at, variable_bit, output_bits, input_bits, GivesLess, unit_of, headline_unit_of_part as unit_of_part, Says, IsRead, HeadlineIsTaken as IsTaken, HeadlineFellShort as FellShort, Cause, ByLoss, ByEarlyClose, ByFallingShort, HeadlineIsMissed as IsMissed, ListsUnits, CloseShows, HeadlineLaw, EachIsPromised, same_progress, none_some, some_same, plain_frame, some_of, HeadlineShows, HasRoom}
 use Rattle.ec_world.proofs.Refinement.Close.{unit_is as part_unit}
 use Rattle.ec_world.proofs.Runs.TroubleLaw.{made_later, preceded, extended}
 use Rattle.ec_link.specs.Sound as link
@@ -8,7 +8,7 @@ use Rattle.ec_world.proofs.Refinement.MasterEvents.{OpenBoth, open_both}
 use Rattle.ec_world.proofs.Refinement.StepsRefine.{runs_refine, runs_join, steps_refine}
 use Rattle.ec_world.proofs.Cycles.InputsLaw.{inputs_law, notes_law}
 use Rattle.ec_world.proofs.Runs.PublishedLaw.{published_law}
-use Rattle.ec_world.proofs.Headline.LinkedBits.{bit_past, visible_bit, MadeAt, made_at, Sees, sees, PassedOn, passed_on, op_works, works_op, part_is, free_slots, outs_are, ins_are, state_in, state_is, health_is, cut, headline_outputs, row_of}
+use Rattle.ec_world.proofs.Headline.LinkedBits.{bit_past, visible_bit, MadeAt, made_at, Sees, sees, PassedOn, passed_on, op_works, works_op, part_is, free_slots, outs_room, ins_room, state_in, state_is, health_is, cut, headline_outputs, row_of}
 use Rattle.ec_world.proofs.Runs.BeganAt.{BeganAt, are_begun, begun_of, begun_on}
 use Rattle.ec_world.proofs.Cycles.QuietLaw.{in_parts, quiet_law, spoiled_not_full, in_op_whole}
 use Rattle.ec_world.proofs.Cycles.TakenLaw.{Away}
@@ -259,17 +259,17 @@ module _ (t : Contents) (ids : List Identity) (old : WorldState) (events : List 
   in_plan : (i : ℕ) → i < length w.plan.slaves → i < length (plan_of t).slaves
   in_plan i l = let z = ap (λ (x : PlanState). length x.slaves) s.plan_kept in omega (arith, l, z)
 
-  outs_M : (i : ℕ) → i < length (plan_of t).slaves → (share_of M i).outs ≡ output_bits t i
-  outs_M i l = ap (λ (z : Share). z.outs) (share_is s.ready.plan i) ∙ (ap (λ (z : PlanState). (settings_of z i).share.outs) s.plan_is ∙ outs_are t sound i l)
+  outs_M : (i : ℕ) → i < length (plan_of t).slaves → HasRoom (share_of M i).outs (output_bits t i)
+  outs_M i l = subst (λ (n : ℕ). HasRoom n (output_bits t i)) (sym (ap (λ (z : Share). z.outs) (share_is s.ready.plan i) ∙ ap (λ (z : PlanState). (settings_of z i).share.outs) s.plan_is)) (outs_room t sound i l)
 
-  ins_M : (i : ℕ) → i < length (plan_of t).slaves → (share_of M i).ins ≡ input_bits t i
-  ins_M i l = ap (λ (z : Share). z.ins) (share_is s.ready.plan i) ∙ (ap (λ (z : PlanState). (settings_of z i).share.ins) s.plan_is ∙ ins_are t sound i l)
+  ins_M : (i : ℕ) → i < length (plan_of t).slaves → HasRoom (share_of M i).ins (input_bits t i)
+  ins_M i l = subst (λ (n : ℕ). HasRoom n (input_bits t i)) (sym (ap (λ (z : Share). z.ins) (share_is s.ready.plan i) ∙ ap (λ (z : PlanState). (settings_of z i).share.ins) s.plan_is)) (ins_room t sound i l)
 
   some_bits : (i : ℕ) → i < length (plan_of t).slaves → (has_outs (share_of M i) || has_ins (share_of M i)) ≡ true → 0 < output_bits t i + input_bits t i
   some_bits i l e =
       elim (or_cases (has_outs (share_of M i)) (has_ins (share_of M i)) e) [
-        | inl x ↦ (let y = ltb-true 0 (share_of M i).outs x in omega (arith, outs_M i l, y))
-        | inr x ↦ (let y = ltb-true 0 (share_of M i).ins x in omega (arith, ins_M i l, y))
+        | inl x ↦ (let y = ltb-true 0 (share_of M i).outs x in omega (arith, (outs_M i l).bytes, y))
+        | inr x ↦ (let y = ltb-true 0 (share_of M i).ins x in omega (arith, (ins_M i l).bytes, y))
       ]
 
   lost : (k u : ℕ) → unit_of_part t k ≡ u → LostAt M b.begun pb.next b.behind k → HasLost t begun.event.next begun.event.behind w c.number u
@@ -343,7 +343,7 @@ module _ (t : Contents) (ids : List Identity) (old : WorldState) (events : List 
 
           by : FallsShort M i q → GivesLess t x i
           by (inl z) = inr (state_is i (settings_of x.plan i) (slave_of x i) q q.health is_as ∙ ap state_in z.0, some_bits i (in_plan i here) z.1)
-          by (inr z) = inl (state_is i (settings_of x.plan i) (slave_of x i) q q.health is_as ∙ ap state_in z.0, (let y = ltb-true 0 (share_of M i).outs z.1 in let e = outs_M i (in_plan i here) in omega (arith, y, e)))
+          by (inr z) = inl (state_is i (settings_of x.plan i) (slave_of x i) q q.health is_as ∙ ap state_in z.0, (let y = ltb-true 0 (share_of M i).outs z.1 in let e = (outs_M i (in_plan i here)).bytes in omega (arith, y, e)))
 
       -- from the world that was Ready to the pass
       way : List Event

@@ -1,10 +1,11 @@
 -- A linked bit of a variable, as a bit of the image.
-use Rattle.ec_world.proofs.Words.{IsUnstopped, ℕ, ◌+◌, ◌*◌, ◌/◌, ◌%◌, ◌≤◌, ◌≡◌, ◌==◌, false, ◌∙◌, ap, arith, List, length, get_or, if◌then◌else◌, slice_get, zero, suc, ◌<◌, ◌≢◌, ◌⊎◌, ◌&&◌, Bool, true, Option, Some, None, refl, sym, subst, inl, inr, [], ◌∷◌, ◌++◌, map, set, replicate, is_some, option_map, unwrap_or, nat_lt, get_or-set_same, get_or-set_other, bit_at, get_or_past, set-get_or, bit_at-zero, bit, bytes_of_bits, bit_at-bits_number, Direction, Contents, Variable, is_out, IsLinked, image_from, HasBit, output_manager, plan_of, PlanState, part_of, variables_are_placed, linked_bits_are_there, value_at, WorldState, Flight, slave_of, no_slave, flight_at, flight_progress, is_up, Passes, IsStep, variable_bit, IsMade, HeadlineIsBegun as IsBegun, HadTrouble, IsInOp, progress_at, output_bits, input_bits, ShowsLinked, PassShows, option_map_or, cases_Bool, cases_lt, and_from, and_left, eqb-true, eq-eqb, lt-ltb, le-ltb, true≢false, slice_get-get_or, slice_get_within, if_true, if_false, Identity, SyncManagerSettings, is_set, is_buffered, Init, SafeOp, Op, Buffer, SyncManager, no_manager, Al, switched_on, SlaveState, manager_at, with_memory, with_outputs, with_published, outputs_shown, Out, SlaveRow, object_bits, Share, SlavePlan, Gave, has_outs, compile_fault, AreItsLinks, Meaning, meaning, share_of, out_source, slave_at as settings_of, no_slave_plan, IsUsable, listed, plan_sound, plan_usable, links_are_the_tables, AreStartable, are-plans, Event, Begin, Pass, Progress, Plain, PlainSlave, PlainFrame, Health, Working, Faulted, Reset, step, run, frame_at, plain_slave, linked_outputs, progress_of, given_by, given_in, slave_left, IsAs, IsWorking, Refines, IsRun, IsNew, plain_of, AreLinked, some_same, within_of, State, Rising}
+use Rattle.ec_world.proofs.Words.{IsUnstopped, ℕ, ◌+◌, ◌*◌, ◌/◌, ◌%◌, ◌≤◌, ◌≡◌, ◌==◌, false, ◌∙◌, ap, arith, List, length, get_or, if◌then◌else◌, slice_get, zero, suc, ◌<◌, ◌≢◌, ◌⊎◌, ◌&&◌, Bool, true, Option, Some, None, refl, sym, subst, inl, inr, [], ◌∷◌, ◌++◌, map, set, replicate, is_some, option_map, unwrap_or, nat_lt, get_or-set_same, get_or-set_other, bit_at, get_or_past, set-get_or, bit_at-zero, bit, bytes_of_bits, bit_at-bits_number, Direction, Contents, Variable, is_out, IsLinked, image_from, HasBit, output_manager, plan_of, PlanState, part_of, variables_are_placed, linked_bits_are_there, value_at, WorldState, Flight, slave_of, no_slave, flight_at, flight_progress, is_up, Passes, IsStep, variable_bit, IsMade, HeadlineIsBegun as IsBegun, HadTrouble, IsInOp, progress_at, output_bits, input_bits, ShowsLinked, PassShows, option_map_or, cases_Bool, cases_lt, and_from, and_left, eqb-true, eq-eqb, lt-ltb, le-ltb, true≢false, slice_get-get_or, slice_get_within, if_true, if_false, Identity, SyncManagerSettings, is_set, is_buffered, Init, SafeOp, Op, Buffer, SyncManager, no_manager, Al, switched_on, SlaveState, manager_at, with_memory, with_outputs, with_published, outputs_shown, Out, SlaveRow, object_bits, Share, SlavePlan, Gave, has_outs, compile_fault, AreItsLinks, Meaning, meaning, share_of, out_source, slave_at as settings_of, no_slave_plan, IsUsable, listed, plan_sound, plan_usable, links_are_the_tables, AreStartable, are-plans, Event, Begin, Pass, Progress, Plain, PlainSlave, PlainFrame, Health, Working, Faulted, Reset, step, run, frame_at, plain_slave, linked_outputs, progress_of, given_by, given_in, slave_left, IsAs, IsWorking, Refines, IsRun, IsNew, plain_of, AreLinked, some_same, within_of, State, Rising, HasRoom, room_law}
 use Rattle.ec_table.specs.Sound as table
 use Rattle.ec_link.specs.Sound as link
 use Rattle.ec_world.proofs.Refinement.FrameEvents.{has_met, same_way}
 use Rattle.ec_world.proofs.Refinement.CyclicFrame.{share_is}
-use Rattle.ec_world.proofs.Refinement.ProcessManagers.{for_bits, some_bits, no_bits, unset, third_held, holds_mapped, set_for_outs}
+use Rattle.ec_world.proofs.Refinement.ProcessManagers.{for_bits, some_bits, no_bits, unset, third_held, holds_mapped, set_for_outs, buffered_outs}
+use Rattle.ec_device.specs.Hardware.{out_manager}
 use Rattle.ec_world.proofs.Refinement.ApplicationEvents.{two_there}
 use Rattle.ec_world.proofs.Headline.Buffers.{only_publishes}
 use Rattle.ec_world.proofs.Refinement.StepsRefine.{runs_refine, steps_refine}
@@ -117,7 +118,7 @@ pub sees : (t : Contents) (identities : List Identity) (old : WorldState) (event
 sees t ids old events w made n h up =
     let plan = plan_of t in
     let sound : IsUsable plan = plan_usable t n.sound n.accepted in
-    let planned : AreStartable plan.slaves = record { each = (are-plans t n.sound n.accepted).planned } in
+    let planned : AreStartable plan.slaves = (let a = (are-plans t n.sound n.accepted).plans in record { each = a.planned; alike = a.alike }) in
     let many : length ids ≡ length plan.slaves = let x = n.one_each in let y = (plan_sound t n.sound n.accepted).as_many in omega (arith, x, y) in
     let flags : List Bool = replicate (length plan.slaves) false in
     let old_plan : old.plan ≡ plan = ap (λ (x : WorldState). x.plan) n.is in
@@ -236,8 +237,10 @@ manager_good : (plan : PlanState) (t : ℕ) (s : SlaveState) (q : PlainSlave) �
     → (is_set (manager_at s.managers 2).settings && is_buffered (manager_at s.managers 2).settings) ≡ true
 manager_good plan t s q sound l works some =
     let x = settings_of plan t in
-    let set : (manager_at s.managers 2).settings ≡ for_bits x.share.outs x.kind.out_start 0x24 = manager_held plan t s q sound l works ∙ some_bits x.share.outs x.kind.out_start 0x24 some in
-    ap (λ (y : SyncManagerSettings). is_set y && is_buffered y) set ∙ and_from _ _ (set_for_outs x.share.outs x.kind.out_start some (listed plan sound t l).out_fits) refl
+    let oc : ℕ = (out_manager x.kind.hardware).control in
+    let a = listed plan sound t l in
+    let set : (manager_at s.managers 2).settings ≡ for_bits x.share.outs x.kind.out_start oc = manager_held plan t s q sound l works ∙ some_bits x.share.outs x.kind.out_start oc some in
+    ap (λ (y : SyncManagerSettings). is_set y && is_buffered y) set ∙ and_from _ _ (set_for_outs x.share.outs x.kind.out_start oc a.out_mode some a.out_fits) (buffered_outs x.share.outs x.kind.out_start oc a.out_mode)
 
 -- what it shows: what was published last, or nothing where it has no outputs
 pub record ShownAs (plan : PlanState) (t : ℕ) (s : SlaveState) (q : PlainSlave) : Type 0 where
@@ -247,7 +250,7 @@ pub record ShownAs (plan : PlanState) (t : ℕ) (s : SlaveState) (q : PlainSlave
 pub shown_as : (plan : PlanState) (t : ℕ) (s : SlaveState) (q : PlainSlave) → IsUsable plan → t < length plan.slaves → IsWorking t (settings_of plan t) s q → ShownAs plan t s q
 shown_as plan t s q sound l works = record {
   some = λ some. if_true _ _ _ (manager_good plan t s q sound l works some) ∙ ap (λ (b : Buffer). b.published) works.process.outputs;
-  none = λ none. if_false _ _ _ (ap (λ (y : SyncManagerSettings). is_set y && is_buffered y) (manager_held plan t s q sound l works ∙ no_bits x.share.outs x.kind.out_start 0x24 none) ∙ and_left _ _ unset);
+  none = λ none. if_false _ _ _ (ap (λ (y : SyncManagerSettings). is_set y && is_buffered y) (manager_held plan t s q sound l works ∙ no_bits x.share.outs x.kind.out_start (out_manager x.kind.hardware).control none) ∙ and_left _ _ unset);
 }
   where
     x : SlavePlan
@@ -293,7 +296,8 @@ showing plan t s q value after sound l works is = elim (cases_lt 0 (settings_of 
     own none =
         let bytes : length M.buffer.published ≡ bytes_of_bits x.share.outs = ap (λ (b : Buffer). length b.published) works.process.outputs ∙ works.process.out_bytes.published in
         let zero_bytes : length M.buffer.published ≡ 0 = bytes ∙ ap bytes_of_bits none in
-        let same : with_published M [] ≡ M = ap (with_published M) (sym (empty M.buffer.published zero_bytes)) in
+        let same : with_published M [] ≡ M
+        = ap (with_published M) (sym (empty M.buffer.published zero_bytes)) ∙ ap (λ (x : Bool). record M { awaited = x }) (sym works.out_free) in
         sym (ap (λ ms. with_memory s s.memory ms) (ap (λ (y : SyncManager). set s.managers 2 y) same ∙ set-get_or s.managers 2 no_manager))
 
 -- ---- the plan of a table
@@ -309,11 +313,16 @@ row_of t sound s l =
     let row : SlaveRow = get_or t.slaves s (record { name = []; type_index = 0; serial = 0; outputs = []; inputs = []; unit = 0 }) in
     (row, slice_get-get_or t.slaves s _ (let x = sound.as_many in omega (arith, l, x)))
 
-pub outs_are : (t : Contents) → link.IsSound t (plan_of t) → (s : ℕ) → s < length (plan_of t).slaves → (settings_of (plan_of t) s).share.outs ≡ output_bits t s
-outs_are t sound s l = let r = row_of t sound s l in (sound.each s r.0 r.1).outs
+-- its bits are mapped, in as many bytes
+pub outs_room : (t : Contents) → link.IsSound t (plan_of t) → (s : ℕ) → s < length (plan_of t).slaves → HasRoom (settings_of (plan_of t) s).share.outs (output_bits t s)
+outs_room t sound s l =
+    let r = row_of t sound s l in
+    subst (λ (n : ℕ). HasRoom n (output_bits t s)) (sym (sound.each s r.0 r.1).outs) (room_law (settings_of (plan_of t) s).kind.hardware (output_bits t s))
 
-pub ins_are : (t : Contents) → link.IsSound t (plan_of t) → (s : ℕ) → s < length (plan_of t).slaves → (settings_of (plan_of t) s).share.ins ≡ input_bits t s
-ins_are t sound s l = let r = row_of t sound s l in (sound.each s r.0 r.1).ins
+pub ins_room : (t : Contents) → link.IsSound t (plan_of t) → (s : ℕ) → s < length (plan_of t).slaves → HasRoom (settings_of (plan_of t) s).share.ins (input_bits t s)
+ins_room t sound s l =
+    let r = row_of t sound s l in
+    subst (λ (n : ℕ). HasRoom n (input_bits t s)) (sym (sound.each s r.0 r.1).ins) (room_law (settings_of (plan_of t) s).kind.hardware (input_bits t s))
 
 pub free_slots : {X Y : Type 0} (os : List X) (k : ℕ) → (let none : Option Y = None in get_or (map (λ (o : X). none) os) k none) ≡ None
 free_slots [] k = refl
@@ -330,8 +339,8 @@ pub shows_linked : (t : Contents) → table.IsSound t → compile_fault t ≡ No
 shows_linked t fine free plan is source v u here variables shown nothing = record {
   linked = λ x c i l.
       let within = slice_get_within (object_bits t u Out) i _ l.object_is in
-      let some : 0 < (settings_of plan u).share.outs = omega (arith, outs, within) in
-      let inside : i < 8 * length value = omega (arith, outs, share, within, fits.size) in
+      let some : 0 < (settings_of plan u).share.outs = omega (arith, outs.room, within) in
+      let inside : i < 8 * length value = omega (arith, outs.room, share, within, fits.size) in
       let source_is : out_source plan.out_links u i ≡ Some (image_from t.variables x + c) = (links.outputs u i (image_from t.variables x + c)).1 (record { variable = x; bit = c; linked = l; image_is = refl }) in
       ap (λ ys. bit ys i) (shown some)
       ∙ (fits.each i inside
@@ -345,8 +354,8 @@ shows_linked t fine free plan is source v u here variables shown nothing = recor
     | inr few ↦ ap (λ ys. bit ys i) (nothing (omega (arith, few))) ∙ bit_past [] i (omega arith)
   ];
   size = elim (cases_lt 0 (settings_of plan u).share.outs) [
-    | inl some ↦ ap length (shown some) ∙ (fits.size ∙ ap bytes_of_bits (share ∙ outs))
-    | inr few ↦ ap length (nothing (omega (arith, few))) ∙ ap bytes_of_bits (let z : 0 ≡ (settings_of plan u).share.outs = omega (arith, few) in z ∙ outs)
+    | inl some ↦ ap length (shown some) ∙ (fits.size ∙ (ap bytes_of_bits share ∙ outs.bytes))
+    | inr few ↦ ap length (nothing (omega (arith, few))) ∙ (ap bytes_of_bits (let z : 0 ≡ (settings_of plan u).share.outs = omega (arith, few) in z) ∙ outs.bytes)
   ];
 }
   where
@@ -362,8 +371,8 @@ shows_linked t fine free plan is source v u here variables shown nothing = recor
     in_plan : u < length (plan_of t).slaves
     in_plan = let y = ap (λ (z : PlanState). length z.slaves) is in omega (arith, here, y)
 
-    outs : (settings_of plan u).share.outs ≡ output_bits t u
-    outs = ap (λ (z : PlanState). (settings_of z u).share.outs) is ∙ outs_are t (plan_sound t fine free) u in_plan
+    outs : HasRoom (settings_of plan u).share.outs (output_bits t u)
+    outs = subst (λ (z : PlanState). HasRoom (settings_of z u).share.outs (output_bits t u)) (sym is) (outs_room t (plan_sound t fine free) u in_plan)
 
     links : AreItsLinks t plan
     links = subst (AreItsLinks t) (sym is) (links_are_the_tables t fine free)
@@ -380,7 +389,7 @@ headline_outputs t ids old events w made n h up k v does f at = subst (λ (g : P
   begun = begun;
   shows = λ op own. shows_linked t n.sound n.accepted w.plan s.plan_kept begun.event.at v u o.here variables_then
       (λ some. (showing_in op own).shown some ∙ ap (linked_outputs m u) snapshot) (showing_in op own).nothing;
-  slave = λ op own. only_publishes (slave_of w u) (outputs_shown (slave_of v u)) (slave_of v u) (let n = two_there u (settings_of w.plan u) (slave_of w u) q (listed w.plan s.still_usable u o.here) (works_in op).holds in omega (arith, n)) (showing_in op own).is;
+  slave = λ op own. only_publishes (slave_of w u) (outputs_shown (slave_of v u)) (slave_of v u) (let n = two_there u (settings_of w.plan u) (slave_of w u) q (listed w.plan s.still_usable u o.here) (works_in op).holds in omega (arith, n)) (works_in op).out_free (showing_in op own).is;
   untouched = λ out. o.slave ∙ if_false _ _ _ (not_wrote m u g q (λ works same. out (works_op w p u s.shown o.here works) (part_here ∙ same)));
   others = o.others;
   goes_on = o.goes_on;

@@ -3,7 +3,8 @@ use Rattle.ec_world.proofs.Words.{◌≡◌, ℕ, zero, suc, ◌<◌, ◌≤◌,
 use Rattle.ec_slave.proofs.FirmwareRuns.RestsQuietly as serves
 use Rattle.ec_al.specs.Al as al
 use Rattle.ec_world.specs.Plain as plain
-use Rattle.ec_world.proofs.Refinement.ProcessManagers.{no_bits, unset, third_held, outs_enabled, ins_enabled, locked_denies, fourth_held, still_holds, still_quiet, buffer_long, set_for_outs}
+use Rattle.ec_device.specs.Hardware.{out_manager, in_manager}
+use Rattle.ec_world.proofs.Refinement.ProcessManagers.{no_bits, unset, third_held, outs_enabled, ins_enabled, locked_denies, fourth_held, still_holds, still_quiet, buffer_long, set_for_outs, buffered_outs}
 
 pub quiet-rests : (s : SlaveState) → IsQuiet s → served s ≡ s
 quiet-rests s q = serves.rests_quietly s (record { no_request = q.no_request; no_read = q.no_read; no_message = q.no_message 0 })
@@ -118,7 +119,9 @@ abbrev fallen : SlaveState → SlaveState
 fallen s = record s { al = al.faulted s.al; managers = set s.managers 2 (empty_manager (manager_at s.managers 2).settings true) }
 
 pub out_length : (p : SlavePlan) → AreListed p → buffer_length (output_manager p) ≡ bytes_of_bits p.share.outs
-out_length p a = buffer_long p.share.outs p.kind.out_start 0x24 (λ l. set_for_outs p.share.outs p.kind.out_start l a.out_fits) refl
+out_length p a =
+    let oc : ℕ = (out_manager p.kind.hardware).control in
+    buffer_long p.share.outs p.kind.out_start oc (λ l. set_for_outs p.share.outs p.kind.out_start oc a.out_mode l a.out_fits) (buffered_outs p.share.outs p.kind.out_start oc a.out_mode)
 
 pub state_on : (s : SlaveState) → s ≡ power_on s.kind s.identity → s.al.state ≡ Init
 state_on s e = ap (λ (x : SlaveState). x.al.state) e ∙ ap (λ (a : al.Al). a.state) (switched_on s.kind s.identity).al
@@ -226,21 +229,21 @@ module _ (i : ℕ) (p : SlavePlan) (s : SlaveState) (q : PlainSlave) (fits : Are
   put_is : (k x : ℕ) → Holds i p s → HoldsData p s q → m3.locked ≡ false → is_running s.al.state ≡ true → input_put s k x ≡ option_map put_into (app_written q.inputs k x)
   put_is k x h d u runs = if_true _ _ _ runs ∙ elim (cases_lt 0 p.share.ins) [
     | inl l ↦
-        ap (option_map (with_manager s 3)) (if_true _ _ _ (ins_enabled m3 p.share.ins p.kind.in_start l fits.in_fits (fourth_held i p s h fits) u).1)
+        ap (option_map (with_manager s 3)) (if_true _ _ _ (ins_enabled m3 p.share.ins p.kind.in_start (in_manager p.kind.hardware).control fits.in_mode l fits.in_fits (fourth_held i p s h fits) u).1)
         ∙ (mapped_twice (with_manager s 3) (λ (b : Buffer). record m3 { buffer = b }) (app_written m3.buffer k x) ∙ ap (λ b. option_map put_into (app_written b k x)) d.inputs)
     | inr z ↦
         let none : p.share.ins ≡ 0 = omega arith in
-        let off : is_set m3.settings ≡ false = ap is_set (fourth_held i p s h fits ∙ no_bits p.share.ins p.kind.in_start 0x20 none) ∙ unset in
+        let off : is_set m3.settings ≡ false = ap is_set (fourth_held i p s h fits ∙ no_bits p.share.ins p.kind.in_start (in_manager p.kind.hardware).control none) ∙ unset in
         ap (option_map (with_manager s 3)) (if_false _ _ _ (and_left _ _ (and_left _ _ off)))
         ∙ sym (ap (option_map put_into) (none_written q.inputs k x (d.in_bytes.published ∙ ap bytes_of_bits none)))
   ]
 
   got_is : (k : ℕ) → Holds i p s → HoldsData p s q → m2.locked ≡ false → is_running s.al.state ≡ true → output_got s k ≡ app_read q.outputs k
   got_is k h d u runs = if_true _ _ _ runs ∙ elim (cases_lt 0 p.share.outs) [
-    | inl l ↦ if_true _ _ _ (outs_enabled m2 p.share.outs p.kind.out_start l fits.out_fits (third_held i p s h fits) u).1 ∙ ap (λ b. app_read b k) d.outputs
+    | inl l ↦ if_true _ _ _ (outs_enabled m2 p.share.outs p.kind.out_start (out_manager p.kind.hardware).control fits.out_mode l fits.out_fits (third_held i p s h fits) u).1 ∙ ap (λ b. app_read b k) d.outputs
     | inr z ↦
         let none : p.share.outs ≡ 0 = omega arith in
-        let off : is_set m2.settings ≡ false = ap is_set (third_held i p s h fits ∙ no_bits p.share.outs p.kind.out_start 0x24 none) ∙ unset in
+        let off : is_set m2.settings ≡ false = ap is_set (third_held i p s h fits ∙ no_bits p.share.outs p.kind.out_start (out_manager p.kind.hardware).control none) ∙ unset in
         if_false _ _ _ (and_left _ _ (and_left _ _ off)) ∙ sym (none_read q.outputs k (d.out_bytes.published ∙ ap bytes_of_bits none))
   ]
 
@@ -274,12 +277,14 @@ module _ (i : ℕ) (p : SlavePlan) (s : SlaveState) (q : PlainSlave) (fits : Are
       let m : SyncManager = record m3 { buffer = b } in
       let four : 3 < length s.managers = two_there i p s q fits w.holds in
       let second : (v : Bool) → m2.locked ≡ v → (manager_at (put_into b).managers 2).locked ≡ v = λ v y. ap (λ (x : SyncManager). x.locked) (others_of 3 2 m (omega arith)) ∙ y in
+      let free : (v : Bool) → m2.awaited ≡ v → (manager_at (put_into b).managers 2).awaited ≡ v = λ v y. ap (λ (x : SyncManager). x.awaited) (others_of 3 2 m (omega arith)) ∙ y in
       let held : HoldsData p (put_into b) (record q { inputs = b }) = put_data b (written_length (bytes_of_bits p.share.ins) q.inputs k x b w.process.in_bytes e) w.holds w.process in
       search (
         still_holds i p s s.al 3 m refl w.holds,
         still_quiet s s.al 3 m four refl (w.quiet.no_message 3) w.quiet,
         held,
         second,
+        free,
         ap (λ (x : SyncManager). x.locked) (own_of 3 m (omega arith) w.holds) ∙ w.in_unlocked,
       )
 
@@ -296,6 +301,7 @@ module _ (i : ℕ) (p : SlavePlan) (s : SlaveState) (q : PlainSlave) (fits : Are
         still_quiet s s.al 2 m (omega arith) refl (w.quiet.no_message 2) w.quiet,
         held,
         ap (λ (x : SyncManager). x.locked) own ∙ w.out_unlocked,
+        ap (λ (x : SyncManager). x.awaited) own ∙ w.out_free,
         ap (λ (x : SyncManager). x.locked) other ∙ w.in_unlocked,
       )
   got_shows _ k g e z w = absurd (let y : false ≡ true = z in cc)

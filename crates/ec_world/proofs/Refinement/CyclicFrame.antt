@@ -1,6 +1,9 @@
 -- What a slave that refines a plain slave does with a cyclic frame, and what it shows then.
-use Rattle.ec_world.proofs.Words.{ℕ, ◌+◌, ◌-◌, ◌*◌, ◌<◌, ◌≡◌, ◌≢◌, ◌==◌, ◌||◌, Bool, true, false, Some, None, refl, sym, ◌∙◌, ap, subst, inl, inr, arith, if◌then◌else◌, List, [], ◌∷◌, length, nat_lt, slice_index, bit_at, get_or-map, length-replicate, length-map, cases_Bool, cases_eq, cases_lt, and_from, and_left, and_right, lt-ltb, le-ltb, eq-eqb, ne_eqb, both_ways, listed, bytes_of_bits, within, zeros, length-overlay, if_true, if_false, within_parts, FmmuSettings, fmmu_of, SyncManager, may_read, may_write, publishing, LogicalSpan, inside_span, target, source, readers, writers, SlaveState, manager_at, fmmus_of, power_on, IsMapped, with_outputs, with_published, Area, Misses, outputs_published, switched_on, Share, Gave, has_outs, has_ins, nothing_given, Meaning, share_of, slave_at, no_slave_plan, area_of, area_at, span_of_part, meaning, IsLaid, PlanState, part_at, SlavePlan, AreListed, IsUsable, PlainSlave, PlainFrame, Health, Working, Faulted, Reset, Note, Other, Short, Full, linked_outputs, giving, met_note, met_slave, taking, IsWorking, IsFaulted, IsReset, IsAs, SlaveRefines, GaveAs, given_by, given_in, slave_left, ◌&&◌, IsOfLength, HoldsData}
+use Rattle.ec_world.proofs.Words.{ℕ, ◌+◌, ◌-◌, ◌*◌, ◌<◌, ◌≡◌, ◌≢◌, ◌==◌, ◌||◌, Bool, true, false, Option, Some, None, refl, sym, ◌∙◌, ap, subst, inl, inr, arith, if◌then◌else◌, List, [], ◌∷◌, length, nat_lt, slice_index, bit_at, get_or-map, length-replicate, length-map, cases_Bool, cases_eq, cases_lt, and_from, and_left, and_right, lt-ltb, le-ltb, eq-eqb, ne_eqb, both_ways, listed, bytes_of_bits, within, zeros, length-overlay, if_true, if_false, within_parts, FmmuSettings, fmmu_of, SyncManager, may_read, may_write, publishing, LogicalSpan, inside_span, target, source, readers, writers, SlaveState, manager_at, fmmus_of, power_on, IsMapped, with_outputs, with_published, Area, Misses, outputs_published, switched_on, Share, Gave, has_outs, has_ins, nothing_given, Meaning, share_of, slave_at, no_slave_plan, area_of, area_at, span_of_part, meaning, IsLaid, PlanState, part_at, SlavePlan, AreListed, IsUsable, PlainSlave, PlainFrame, Health, Working, Faulted, Reset, Note, Other, Short, Full, linked_outputs, giving, met_note, met_slave, taking, IsWorking, IsFaulted, IsReset, IsAs, SlaveRefines, GaveAs, given_by, given_in, slave_left, ◌&&◌, IsOfLength, HoldsData}
+use Rattle.ec_device.specs.declared.hardware.Hardware.{Hardware}
+use Rattle.ec_regs.specs.Names.{shown_fmmu}
 use Rattle.ec_world.proofs.Refinement.LogicalDatagram.{Acts, Does, Acting, Missing, Knows}
+use Rattle.ec_device.specs.Hardware.{out_manager, in_manager}
 use Rattle.ec_world.proofs.Refinement.ProcessManagers.{outs_enabled, ins_enabled, locked_denies, holds_mapped, third_held, fourth_held, still_holds, still_quiet}
 
 -- ---- notes and shares
@@ -48,9 +51,9 @@ four_mute f0 f1 f2 f3 e0 e1 e2 e3 = rw (e0, e1, e2, e3) refl
 fmmu_off : (byte : ℕ → ℕ) → ((k : ℕ) → byte k ≡ 0) → ((fmmu_of byte).reads ≡ false) × ((fmmu_of byte).writes ≡ false)
 fmmu_off byte z = (ap (λ x. bit_at x 0 == 1) (z 11), ap (λ x. bit_at x 1 == 1) (z 11))
 
-blank_misses : (memory : List ℕ) → ((i : ℕ) → slice_index memory i ≡ 0) → (readers (fmmus_of memory) ≡ []) × (writers (fmmus_of memory) ≡ [])
-blank_misses memory z =
-    let at = λ (n : ℕ). fmmu_of (λ k. slice_index memory (0x0600 + 16 * n + k)) in
+blank_misses : (o : Option Hardware) (memory : List ℕ) → ((i : ℕ) → slice_index memory i ≡ 0) → (readers (fmmus_of o memory) ≡ []) × (writers (fmmus_of o memory) ≡ [])
+blank_misses o memory z =
+    let at = λ (n : ℕ). shown_fmmu o (fmmu_of (λ k. slice_index memory (0x0600 + 16 * n + k))) in
     let off : (n : ℕ) → ((at n).reads ≡ false) × ((at n).writes ≡ false) = λ n. fmmu_off (λ k. slice_index memory (0x0600 + 16 * n + k)) (λ k. z (0x0600 + 16 * n + k)) in
     (four_idle (at 0) (at 1) (at 2) (at 3) (off 0).0 (off 1).0 (off 2).0 (off 3).0, four_mute (at 0) (at 1) (at 2) (at 3) (off 0).1 (off 1).1 (off 2).1 (off 3).1)
 
@@ -59,7 +62,7 @@ memory_on s e i = ap (λ (x : SlaveState). slice_index x.memory i) e ∙ (switch
 
 pub reset_misses : (p : SlavePlan) (s : SlaveState) (at : LogicalSpan) → IsReset p s → Misses s at
 reset_misses p s at h =
-    let none = blank_misses s.memory (memory_on s h.as_on) in
+    let none = blank_misses s.kind.hardware s.memory (memory_on s h.as_on) in
     record { reads = λ i l. ap (λ fs. target fs (at.from + i)) none.0; writes = λ q. ap (λ fs. inside_span at (source fs q)) none.1 }
 
 pub other_misses : (m : Meaning) (area : ℕ → Area) (place : ℕ → LogicalSpan) (k : ℕ) (s : SlaveState) (t : ℕ) → IsLaid m area place → t < length m.slaves → (share_of m t).part ≢ k → IsMapped s (area t) → Misses s (place k)
@@ -122,8 +125,8 @@ module _ (plan : PlanState) (t : ℕ) (f : PlainFrame) (q : PlainSlave) (s : Sla
   working_acts : IsWorking t pl s q → Acts s (area_of pl) (given_by h Working) q.inputs.published
   working_acts w = record {
     mapped = holds_mapped t pl s w.holds fits;
-    takes_is = let_by pl.share.outs h.outs (may_write (manager_at s.managers 2)) outs_is (λ l. (outs_enabled (manager_at s.managers 2) pl.share.outs pl.kind.out_start (let e = outs_is in omega arith) fits.out_fits (third_held t pl s w.holds fits) w.out_unlocked).0);
-    gives_is = let_by pl.share.ins h.ins (may_read (manager_at s.managers 3)) ins_is (λ l. (ins_enabled (manager_at s.managers 3) pl.share.ins pl.kind.in_start (let e = ins_is in omega arith) fits.in_fits (fourth_held t pl s w.holds fits) w.in_unlocked).0);
+    takes_is = let_by pl.share.outs h.outs (may_write (manager_at s.managers 2)) outs_is (λ l. (outs_enabled (manager_at s.managers 2) pl.share.outs pl.kind.out_start (out_manager pl.kind.hardware).control fits.out_mode (let e = outs_is in omega arith) fits.out_fits (third_held t pl s w.holds fits) w.out_unlocked).0);
+    gives_is = let_by pl.share.ins h.ins (may_read (manager_at s.managers 3)) ins_is (λ l. (ins_enabled (manager_at s.managers 3) pl.share.ins pl.kind.in_start (in_manager pl.kind.hardware).control fits.in_mode (let e = ins_is in omega arith) fits.in_fits (fourth_held t pl s w.holds fits) w.in_unlocked).0);
     inputs_is = ap (λ b. b.published) w.process.inputs;
   }
 
@@ -131,7 +134,7 @@ module _ (plan : PlanState) (t : ℕ) (f : PlainFrame) (q : PlainSlave) (s : Sla
   faulted_acts w = record {
     mapped = holds_mapped t pl s w.holds fits;
     takes_is = and_right _ _ (locked_denies (manager_at s.managers 2) w.out_locked).0;
-    gives_is = let_by pl.share.ins h.ins (may_read (manager_at s.managers 3)) ins_is (λ l. (ins_enabled (manager_at s.managers 3) pl.share.ins pl.kind.in_start (let e = ins_is in omega arith) fits.in_fits (fourth_held t pl s w.holds fits) w.in_unlocked).0);
+    gives_is = let_by pl.share.ins h.ins (may_read (manager_at s.managers 3)) ins_is (λ l. (ins_enabled (manager_at s.managers 3) pl.share.ins pl.kind.in_start (in_manager pl.kind.hardware).control fits.in_mode (let e = ins_is in omega arith) fits.in_fits (fourth_held t pl s w.holds fits) w.in_unlocked).0);
     inputs_is = ap (λ b. b.published) w.process.inputs;
   }
 
@@ -191,6 +194,7 @@ module _ (plan : PlanState) (t : ℕ) (f : PlainFrame) (q : PlainSlave) (s : Sla
         still_quiet s s.al 2 m l refl (w.quiet.no_message 2) w.quiet,
         held,
         ap (λ (x : SyncManager). x.locked) own ∙ w.out_unlocked,
+        ap (λ (x : SyncManager). x.awaited) own,
         ap (λ (x : SyncManager). x.locked) fourth ∙ w.in_unlocked,
       )
 

@@ -1,5 +1,8 @@
 -- The sync managers of process data, as a plan sets them.
-use Rattle.ec_world.proofs.Words.{ℕ, ◌+◌, ◌*◌, ◌<◌, ◌≡◌, ◌&&◌, not, true, false, Some, refl, ◌∙◌, ap, arith, if◌then◌else◌, List, [], ◌∷◌, map, Bool, Option, sym, subst, inl, inr, length, get_or, position_from, and_from, and_left, and_right, lt-ltb, le-leb, ne_eqb, eq-eqb, cases_Bool, both_ways, bytes_of_bits, if_true, if_false, within_true, SyncManagerSettings, no_settings, is_set, is_mailbox, span, ram_start, ram_end, SyncManager, may_read, may_write, may_app_put, may_app_get, no_manager, governs, governor, process_manager, has_byte, FitsRam, AreListed, output_manager, input_manager, get_or-map, length-map, no_fmmu, target, source, readers, writers, read_set_is_run, write_set_is_run, SlaveState, manager_at, fmmus, IsMapped, IsBufferAt, SlavePlan, area_of, link_fmmu_of as fmmu_of, Holds, is_buffered, buffer_length, cases_lt, Al, map-set_same, None, IsQuiet, cases_eq, get_or-set_same, get_or-set_other, set}
+use Rattle.ec_world.proofs.Words.{ℕ, ◌+◌, ◌*◌, ◌<◌, ◌≡◌, ◌&&◌, not, true, false, Some, refl, ◌∙◌, ap, arith, if◌then◌else◌, List, [], ◌∷◌, map, Bool, Option, sym, subst, inl, inr, length, get_or, position_from, and_from, and_left, and_right, ne_eqb, eq-eqb, cases_Bool, both_ways, bytes_of_bits, if_true, if_false, within_true, SyncManagerSettings, no_settings, is_set, is_mailbox, span, SyncManager, may_read, may_write, may_app_put, may_app_get, no_manager, governs, governor, process_manager, has_byte, FitsRam, AreListed, output_manager, input_manager, get_or-map, length-map, no_fmmu, target, source, readers, writers, read_set_is_run, write_set_is_run, SlaveState, manager_at, fmmus, IsMapped, IsBufferAt, SlavePlan, area_of, link_fmmu_of as fmmu_of, Holds, is_buffered, buffer_length, cases_lt, Al, map-set_same, None, IsQuiet, cases_eq, get_or-set_same, get_or-set_other, set, ◌/◌, ◌%◌}
+use Rattle.ec_regs.specs.Managers.{is_master_written, is_master_read}
+use Rattle.ec_device.specs.Hardware.{out_manager, in_manager}
+use Rattle.ec_link.proofs.ManagersApart.{buffer_set, no_box, of_outputs, of_inputs}
 
 -- set for so many bits
 abbrev pub for_bits : ℕ → ℕ → ℕ → SyncManagerSettings
@@ -11,13 +14,18 @@ some_bits bits start control l = if_false _ _ _ (ne_eqb bits 0 (omega arith))
 pub no_bits : (bits start control : ℕ) → bits ≡ 0 → process_manager start bits control ≡ no_settings
 no_bits bits start control e = if_true _ _ _ (eq-eqb bits 0 e)
 
-pub set_for_outs : (bits start : ℕ) → 0 < bits → FitsRam bits start → is_set (for_bits bits start 0x24) ≡ true
-unfolding is_set
-set_for_outs bits start l fits = let f = fits l in and_from _ _ (lt-ltb 0 (bytes_of_bits bits) (omega arith)) (and_from _ _ (le-leb ram_start start f.0) (le-leb (start + 3 * bytes_of_bits bits) ram_end f.1))
+-- by the modes of outputs and of inputs
+pub set_for_outs : (bits start control : ℕ) → control % 16 ≡ 4 → 0 < bits → FitsRam bits start → is_set (for_bits bits start control) ≡ true
+set_for_outs bits start control mode l fits = let f = fits l in buffer_set start (bytes_of_bits bits) control (of_outputs control mode) (omega (arith, l)) f.0 f.1
 
-pub set_for_ins : (bits start : ℕ) → 0 < bits → FitsRam bits start → is_set (for_bits bits start 0x20) ≡ true
-unfolding is_set
-set_for_ins bits start l fits = let f = fits l in and_from _ _ (lt-ltb 0 (bytes_of_bits bits) (omega arith)) (and_from _ _ (le-leb ram_start start f.0) (le-leb (start + 3 * bytes_of_bits bits) ram_end f.1))
+pub set_for_ins : (bits start control : ℕ) → control % 16 ≡ 0 → 0 < bits → FitsRam bits start → is_set (for_bits bits start control) ≡ true
+set_for_ins bits start control mode l fits = let f = fits l in buffer_set start (bytes_of_bits bits) control (of_inputs control mode) (omega (arith, l)) f.0 f.1
+
+pub buffered_outs : (bits start control : ℕ) → control % 16 ≡ 4 → is_buffered (for_bits bits start control) ≡ true
+buffered_outs bits start control mode = eq-eqb (control % 4) 0 (omega (arith, mode))
+
+pub buffered_ins : (bits start control : ℕ) → control % 16 ≡ 0 → is_buffered (for_bits bits start control) ≡ true
+buffered_ins bits start control mode = eq-eqb (control % 4) 0 (omega (arith, mode))
 
 pub unset : is_set no_settings ≡ false
 unfolding is_set
@@ -46,17 +54,21 @@ fourth_governs m0 m1 m2 m3 a e0 e1 e2 e3 = if_false _ _ _ e0 ∙ (if_false _ _ _
 
 -- ---- who may do what
 
-pub outs_enabled : (m : SyncManager) (bits start : ℕ) → 0 < bits → FitsRam bits start → m.settings ≡ process_manager start bits 0x24 → m.locked ≡ false → (may_write m ≡ true) × (may_app_get m ≡ true)
-outs_enabled m bits start l fits e u =
-    let same : m.settings ≡ for_bits bits start 0x24 = e ∙ some_bits bits start 0x24 l in
-    let set : is_set (for_bits bits start 0x24) ≡ true = set_for_outs bits start l fits in
-    (rw (same, u, set) refl, rw (same, u, set) refl)
+pub outs_enabled : (m : SyncManager) (bits start control : ℕ) → control % 16 ≡ 4 → 0 < bits → FitsRam bits start → m.settings ≡ process_manager start bits control → m.locked ≡ false → (may_write m ≡ true) × (may_app_get m ≡ true)
+outs_enabled m bits start control mode l fits e u =
+    let same : m.settings ≡ for_bits bits start control = e ∙ some_bits bits start control l in
+    let on : (is_set m.settings && not m.locked) ≡ true = and_from _ _ (ap is_set same ∙ set_for_outs bits start control mode l fits) (ap not u) in
+    let written : is_master_written m.settings ≡ true = ap is_master_written same ∙ eq-eqb (control / 4 % 4) 1 (omega (arith, mode)) in
+    let box : is_mailbox m.settings ≡ false = ap is_mailbox same ∙ no_box control (omega (arith, mode)) in
+    (and_from _ _ on (and_from _ _ written (if_false _ _ _ box)), and_from _ _ on (and_from _ _ (ap is_buffered same ∙ buffered_outs bits start control mode) written))
 
-pub ins_enabled : (m : SyncManager) (bits start : ℕ) → 0 < bits → FitsRam bits start → m.settings ≡ process_manager start bits 0x20 → m.locked ≡ false → (may_read m ≡ true) × (may_app_put m ≡ true)
-ins_enabled m bits start l fits e u =
-    let same : m.settings ≡ for_bits bits start 0x20 = e ∙ some_bits bits start 0x20 l in
-    let set : is_set (for_bits bits start 0x20) ≡ true = set_for_ins bits start l fits in
-    (rw (same, u, set) refl, rw (same, u, set) refl)
+pub ins_enabled : (m : SyncManager) (bits start control : ℕ) → control % 16 ≡ 0 → 0 < bits → FitsRam bits start → m.settings ≡ process_manager start bits control → m.locked ≡ false → (may_read m ≡ true) × (may_app_put m ≡ true)
+ins_enabled m bits start control mode l fits e u =
+    let same : m.settings ≡ for_bits bits start control = e ∙ some_bits bits start control l in
+    let on : (is_set m.settings && not m.locked) ≡ true = and_from _ _ (ap is_set same ∙ set_for_ins bits start control mode l fits) (ap not u) in
+    let read : is_master_read m.settings ≡ true = ap is_master_read same ∙ eq-eqb (control / 4 % 4) 0 (omega (arith, mode)) in
+    let box : is_mailbox m.settings ≡ false = ap is_mailbox same ∙ no_box control (omega (arith, mode)) in
+    (and_from _ _ on (and_from _ _ read (if_false _ _ _ box)), and_from _ _ on (and_from _ _ (ap is_buffered same ∙ buffered_ins bits start control mode) read))
 
 -- a locked manager denies
 pub locked_denies : (m : SyncManager) → m.locked ≡ true → (may_write m ≡ false) × (may_app_get m ≡ false)
@@ -108,6 +120,8 @@ holds_mapped i p s h a =
     let m1 = get_or p.managers 1 no_settings in
     let m2 = output_manager p in
     let m3 = input_manager p in
+    let oc : ℕ = (out_manager p.kind.hardware).control in
+    let ic : ℕ = (in_manager p.kind.hardware).control in
     let fs : fmmus s ≡ f0 ∷ f1 ∷ no_fmmu ∷ no_fmmu ∷ [] = h.fmmus ∙ a.fmmus in
     let of : (b : ℕ) → governor s.managers b ≡ governor_by (m0 ∷ m1 ∷ m2 ∷ m3 ∷ []) b = λ b. governor_of 0 s.managers b ∙ ap (λ xs. governor_by xs b) (h.managers ∙ a.managers) in
     let apart : (n k b : ℕ) → n < k → k < 4 → has_byte (get_or (m0 ∷ m1 ∷ m2 ∷ m3 ∷ []) n no_settings) b ≡ true → has_byte (get_or (m0 ∷ m1 ∷ m2 ∷ m3 ∷ []) k no_settings) b ≡ false
@@ -117,9 +131,9 @@ holds_mapped i p s h a =
     let some_ins : (k : ℕ) → k < bytes_of_bits p.share.ins → 0 < p.share.ins = λ k l. omega arith in
     let some_outs : (k : ℕ) → k < bytes_of_bits p.share.outs → 0 < p.share.outs = λ k l. omega arith in
     let ins_own : (k : ℕ) → k < bytes_of_bits p.share.ins → has_byte m3 (p.kind.in_start + k) ≡ true
-    = λ k l. ap (λ m. has_byte m (p.kind.in_start + k)) (some_bits p.share.ins p.kind.in_start 0x20 (some_ins k l)) ∙ has_own p.share.ins p.kind.in_start 0x20 k (set_for_ins p.share.ins p.kind.in_start (some_ins k l) a.in_fits) l in
+    = λ k l. ap (λ m. has_byte m (p.kind.in_start + k)) (some_bits p.share.ins p.kind.in_start ic (some_ins k l)) ∙ has_own p.share.ins p.kind.in_start ic k (set_for_ins p.share.ins p.kind.in_start ic a.in_mode (some_ins k l) a.in_fits) l in
     let outs_own : (k : ℕ) → k < bytes_of_bits p.share.outs → has_byte m2 (p.kind.out_start + k) ≡ true
-    = λ k l. ap (λ m. has_byte m (p.kind.out_start + k)) (some_bits p.share.outs p.kind.out_start 0x24 (some_outs k l)) ∙ has_own p.share.outs p.kind.out_start 0x24 k (set_for_outs p.share.outs p.kind.out_start (some_outs k l) a.out_fits) l in
+    = λ k l. ap (λ m. has_byte m (p.kind.out_start + k)) (some_bits p.share.outs p.kind.out_start oc (some_outs k l)) ∙ has_own p.share.outs p.kind.out_start oc k (set_for_outs p.share.outs p.kind.out_start oc a.out_mode (some_outs k l) a.out_fits) l in
     let held : (n : ℕ) → (manager_at s.managers n).settings ≡ get_or (m0 ∷ m1 ∷ m2 ∷ m3 ∷ []) n no_settings = λ n. settings_held i p s n h ∙ ap (λ xs. get_or xs n no_settings) a.managers in
     record {
       four = sym (length-map s.managers (λ m. m.settings)) ∙ (ap length h.managers ∙ ap length a.managers);
@@ -133,8 +147,8 @@ holds_mapped i p s h a =
           let b = p.kind.out_start + k in
           let own = outs_own k l in
           of b ∙ third_governs m0 m1 m2 m3 b (below 0 2 b (omega arith) (omega arith) own) (below 1 2 b (omega arith) (omega arith) own) own;
-      in_buffer = λ l. subst (λ (m : SyncManagerSettings). IsBufferAt m p.kind.in_start (bytes_of_bits p.share.ins)) (sym (held 3 ∙ some_bits p.share.ins p.kind.in_start 0x20 l))
-          (let f = a.in_fits l in record { start_is = refl; length_is = refl; no_mailbox = refl; from_ram = f.0; to_ram = let x = f.1 in omega arith });
-      out_buffer = λ l. subst (λ (m : SyncManagerSettings). IsBufferAt m p.kind.out_start (bytes_of_bits p.share.outs)) (sym (held 2 ∙ some_bits p.share.outs p.kind.out_start 0x24 l))
-          (let f = a.out_fits l in record { start_is = refl; length_is = refl; no_mailbox = refl; from_ram = f.0; to_ram = let x = f.1 in omega arith });
+      in_buffer = λ l. subst (λ (m : SyncManagerSettings). IsBufferAt m p.kind.in_start (bytes_of_bits p.share.ins)) (sym (held 3 ∙ some_bits p.share.ins p.kind.in_start ic l))
+          (let f = a.in_fits l in let z = a.in_mode in record { start_is = refl; length_is = refl; no_mailbox = no_box ic (omega (arith, z)); from_ram = f.0; to_ram = let x = f.1 in omega arith });
+      out_buffer = λ l. subst (λ (m : SyncManagerSettings). IsBufferAt m p.kind.out_start (bytes_of_bits p.share.outs)) (sym (held 2 ∙ some_bits p.share.outs p.kind.out_start oc l))
+          (let f = a.out_fits l in let z = a.out_mode in record { start_is = refl; length_is = refl; no_mailbox = no_box oc (omega (arith, z)); from_ram = f.0; to_ram = let x = f.1 in omega arith });
     }

@@ -1,5 +1,5 @@
 -- One event, and runs of events.
-use Rattle.ec_world.proofs.Words.{false≢true, ◌⊎◌, Stop, ℕ, ◌<◌, ◌≡◌, ◌&&◌, ◌||◌, not, Bool, true, false, Option, Some, None, refl, sym, ◌∙◌, ap, subst, inl, inr, length, is_some, if◌then◌else◌, unwrap_or, ◌+◌, ◌++◌, arith, List, [], ◌∷◌, cases_Bool, cases_lt, both_ways, and_parts, and_left, listed, if_true, power_on, slave_at, meaning, IsUsable, Event, StartNext, Set, Begin, Pass, Lose, Return, Close, Serve, AppPut, AppGet, Fault, ResetSlave, Plain, PlainSlave, step, plain_slave, is_working, failing, restarting, at_slave, run, WorldState, awaits, ByStart, Returns, Closes, can_start, can_happen, Happens, is_slave, slave_of, StartReturns, GivesUp, with_slave, IsStep, is_up, ready_with, resumed, served, faulted, Refines, StepsRefine, IsRun, RunsRefine, RunsJoin, PlanState, SlavePlan, Phase, Failed, StartState, asked, begun, IsStartTaken, plans_stay, MasterState, readied, master_plan, AreOfPlan, IsAnswered, IsTakenIn, IsHandedIn, none_if, some_guarded}
+use Rattle.ec_world.proofs.Words.{ℕ, ◌<◌, ◌≡◌, ◌&&◌, ◌||◌, not, Bool, true, false, Option, Some, None, refl, sym, ◌∙◌, ap, subst, inl, inr, length, is_some, if◌then◌else◌, unwrap_or, ◌+◌, ◌++◌, arith, List, [], ◌∷◌, cases_Bool, cases_lt, both_ways, and_parts, and_left, listed, if_true, power_on, slave_at, meaning, IsUsable, Event, StartNext, Set, Begin, Pass, Lose, Return, Close, Serve, AppPut, AppGet, Fault, ResetSlave, Plain, PlainSlave, step, plain_slave, is_working, failing, restarting, at_slave, run, WorldState, awaits, ByStart, Returns, Closes, can_start, can_happen, Happens, is_slave, slave_of, StartReturns, GivesUp, with_slave, IsStep, is_up, ready_with, resumed, served, faulted, Refines, StepsRefine, IsRun, RunsRefine, RunsJoin, PlanState, SlavePlan, Phase, Failed, StartState, asked, begun, IsStartTaken, plans_stay, MasterState, readied, master_plan, AreOfPlan, IsAnswered, IsTakenIn, IsHandedIn, HasSamePlan, Feed, none_if, some_guarded, false≢true, ◌⊎◌, Stop}
 use Rattle.ec_al.specs.Al as al
 use Rattle.ec_world.specs.Plain as plain
 use Rattle.ec_world.proofs.Runs.Unstopped.{is_calm, stop_is_seen, still_next}
@@ -167,15 +167,22 @@ runs_join old (e ∷ es) mid made second new more h g =
 
 -- ---- the start-up and the master of a world stay of its plan
 
-pub begun_plan : (ps : List SlavePlan) (number : ℕ) → (begun ps number).plan ≡ ps
+pub begun_plan : (ps : List SlavePlan) (fs : List Feed) (number : ℕ) → (begun ps fs number).plan ≡ ps
 unfolding begun
-begun_plan ps number = refl
+begun_plan ps fs number = refl
 
-pub resumed_plan : (s : StartState) (p : Phase) → (resumed s p).plan ≡ s.plan
-resumed_plan s (Failed failure) = begun_plan s.plan s.next
-resumed_plan s _ = refl
+pub begun_feeds : (ps : List SlavePlan) (fs : List Feed) (number : ℕ) → (begun ps fs number).feeds ≡ fs
+unfolding begun
+begun_feeds ps fs number = refl
 
-pub taken_plan : (s t : StartState) (payload : List ℕ) (is_accepted : Bool) → IsStartTaken s payload is_accepted t → t.plan ≡ s.plan
+pub same_start : (s : StartState) → HasSamePlan s s
+same_start s = record { plan = refl; feeds = refl }
+
+pub resumed_plan : (s : StartState) (p : Phase) → HasSamePlan s (resumed s p)
+resumed_plan s (Failed failure) = record { plan = begun_plan s.plan s.feeds s.next; feeds = begun_feeds s.plan s.feeds s.next }
+resumed_plan s _ = same_start s
+
+pub taken_plan : (s t : StartState) (payload : List ℕ) (is_accepted : Bool) → IsStartTaken s payload is_accepted t → HasSamePlan s t
 taken_plan s t payload is_accepted h = (plans_stay s).take_keeps payload is_accepted t h
 
 ready_plan : (m : MasterState) (s : StartState) → (ready_with m s).plan ≡ m.plan
@@ -188,14 +195,16 @@ handed_plans plan s t m n payload of h = go (awaits s) h
     go : (b : Bool) → ByStart b (IsAnswered s m payload t n) (IsTakenIn s m payload t n) → AreOfPlan plan t n
     go true x = record {
       usable = of.usable;
-      start = taken_plan s t payload x.is_accepted x.start ∙ of.start;
+      start = (taken_plan s t payload x.is_accepted x.start).plan ∙ of.start;
+      feeds = (taken_plan s t payload x.is_accepted x.start).feeds ∙ of.feeds;
       master = ap (λ (y : MasterState). y.plan) x.master ∙ (ready_plan m t ∙ of.master);
     }
     go false x = record {
       usable = of.usable;
       start = ap (λ (y : StartState). y.plan) x.start ∙ of.start;
+      feeds = ap (λ (y : StartState). y.feeds) x.start ∙ of.feeds;
       master = master_plan m n payload x.is_accepted x.master ∙ of.master;
     }
 
-pub asked_plan : (s : StartState) → (asked s).plan ≡ s.plan
+pub asked_plan : (s : StartState) → HasSamePlan s (asked s)
 asked_plan s = (plans_stay s).next_keeps

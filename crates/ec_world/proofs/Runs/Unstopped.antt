@@ -42,7 +42,7 @@ resumed_next s (Failed failure) = refl
 resumed_next s _ = refl
 
 judged_next : (s : StartState) (v : Verdict) → (judged s v).next ≡ s.next
-judged_next s Again = elim (s.polls + 1 == max_polls) as (λ b. (let t : StartState = if b then record s { phase = Failed (TooSlow s.place) } else record s { polls = s.polls + 1; phase = Idle } in t.next) ≡ s.next) [ true ↦ refl | false ↦ refl ]
+judged_next s Again = elim (s.polls + 1 == max_polls) as (λ b. (let t : StartState = if b then record s { phase = Failed (TooSlow s.place) } else record s { fed = 0; polls = s.polls + 1; phase = Idle } in t.next) ≡ s.next) [ true ↦ refl | false ↦ refl ]
 judged_next s _ = refl
 
 pub taken_next : (s t : StartState) (payload : List ℕ) (is_accepted : Bool) → IsStartTaken s payload is_accepted t → t.next ≡ s.next
@@ -79,6 +79,10 @@ stopped_low s m = refl
 pub stopped_plan : (s : StartState) (m : MasterState) → (stopped s m).plan ≡ s.plan
 unfolding begun
 stopped_plan s m = refl
+
+pub stopped_feeds : (s : StartState) (m : MasterState) → (stopped s m).feeds ≡ s.feeds
+unfolding begun
+stopped_feeds s m = refl
 
 stopped_height : (s : StartState) (m : MasterState) → is_low (stopped s m).phase ≡ 1
 unfolding begun

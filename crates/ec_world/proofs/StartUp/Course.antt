@@ -1,14 +1,14 @@
 -- The course of a world: it starts up, is Ready, may be stopped and start up again. At each instant it is one that starts up, or Ready
 -- since some event.
-use Rattle.ec_world.proofs.Words.{ℕ, ◌+◌, ◌<◌, ◌≤◌, ◌≡◌, ◌⊎◌, not, Bool, true, false, Option, Some, None, is_none, refl, sym, ◌∙◌, ap, subst, inl, inr, arith, if◌then◌else◌, List, [], ◌∷◌, ◌++◌, length, length-set, cases_Bool, both_ways, and_parts, eqb-true, false≢true, true≢false, nones, unwrap_or, IsUsable, meaning, PlanState, SlavePlan, kind_at, IsOfKind, Starts, Over, AreStartable, ends_of, Lost, Failed, begun, StartState, OpenCycle, MasterState, Event, StartNext, Fault, ResetSlave as Reset, Stop, Plain, step, WorldState, slave_of, is_up, stopped, can_happen, IsStep, IsRun, Refines, flags_after, flags_of, Rising, starting_of, IsReadyWorld, plain_of, none_some}
+use Rattle.ec_world.proofs.Words.{ℕ, ◌+◌, ◌<◌, ◌≤◌, ◌≡◌, ◌⊎◌, not, Bool, true, false, Option, Some, None, is_none, refl, sym, ◌∙◌, ap, subst, inl, inr, arith, if◌then◌else◌, List, [], ◌∷◌, ◌++◌, length, length-set, cases_Bool, both_ways, and_parts, eqb-true, false≢true, true≢false, nones, unwrap_or, IsUsable, meaning, PlanState, SlavePlan, kind_at, IsOfKind, Starts, Over, AreStartable, ends_of, Lost, Failed, begun, feeds_of, AreFeedsOf, parts_can_be_fed, StartState, OpenCycle, MasterState, Event, StartNext, Fault, ResetSlave as Reset, Stop, Plain, step, WorldState, slave_of, is_up, stopped, can_happen, IsStep, IsRun, Refines, flags_after, flags_of, Rising, starting_of, IsReadyWorld, plain_of, none_some}
 use Rattle.ec_world.proofs.Runs.OneOutcomeLaw.{HoldsFrames, step_holds}
-use Rattle.ec_world.proofs.Runs.Unstopped.{stays_or_stops, stopped_low, stopped_plan}
+use Rattle.ec_world.proofs.Runs.Unstopped.{stays_or_stops, stopped_low, stopped_plan, stopped_feeds}
 use Rattle.ec_world.proofs.Runs.PlanLaw.{plan_stays}
 use Rattle.ec_world.proofs.Runs.Sizes.{step_same}
 use Rattle.ec_world.proofs.Refinement.StepsRefine.{steps_refine}
 use Rattle.ec_world.proofs.StartUp.Rising.{event-rises, all-none}
 use Rattle.ec_world.proofs.StartUp.IsReadyWorld.{ready-world, no-slots}
-use Rattle.ec_world.proofs.StartUp.Lasting.{OfKinds, IsWhole, Each, step_lasts, kinds_last, whole_last}
+use Rattle.ec_world.proofs.StartUp.Lasting.{OfKinds, Fit, Each, step_lasts, kinds_last, fits_last}
 
 -- ---- a Ready world, with what a stop needs
 
@@ -16,10 +16,11 @@ pub record Runs (flags : List Bool) (w : WorldState) : Type 0 where
   pub plain : Plain
   pub shows : Refines w plain
   pub same_plan : w.start.plan ≡ w.plan.slaves
+  pub same_feeds : w.start.feeds ≡ feeds_of w.plan
   pub some_slots : 0 < length w.slots
   pub flagged : length flags ≡ length w.plan.slaves
   pub kinds : Each (OfKinds w.plan.slaves) w.slaves
-  pub whole : Each IsWhole w.slaves
+  pub fit : Each Fit w.slaves
   pub holds : HoldsFrames w
 
 -- as it becomes Ready
@@ -31,10 +32,11 @@ now_runs flags w usable planned r up =
       plain = plain_of w;
       shows = ready.shows;
       same_plan = r.same_plan;
+      same_feeds = r.same_feeds;
       some_slots = r.some_slots;
       flagged = r.starts.slaves.troubles ∙ ap length r.same_plan;
       kinds = λ k l. subst (λ (ps : List SlavePlan). IsOfKind (kind_at ps k) (slave_of w k)) r.same_plan (r.starts.slaves.each k (let z = ap length r.same_plan in omega (arith, l, z)));
-      whole = r.fit;
+      fit = r.fit;
       holds = λ k x e. absurd (none_some x (sym (none k) ∙ e));
     }
 
@@ -54,16 +56,17 @@ still_runs : (flags : List Bool) (w : WorldState) (e : Event) (v : WorldState) (
 still_runs flags w e v one usable r h same =
     let plan : v.plan ≡ w.plan = plan_stays w e v one h in
     let kinds = step_lasts (OfKinds w.plan.slaves) (kinds_last w.plan.slaves) w e v one r.holds r.kinds h in
-    let whole = step_lasts IsWhole whole_last w e v one r.holds r.whole h in
+    let fit = step_lasts Fit fits_last w e v one r.holds r.fit h in
     let slots = (step_same w e v one h).slots in
     record {
       plain = unwrap_or (step (meaning w.plan) r.plain e) r.plain;
       shows = (steps_refine w e v one usable h).shown r.plain r.shows same;
       same_plan = ap (λ (s : StartState). s.plan) same ∙ (r.same_plan ∙ ap (λ (p : PlanState). p.slaves) (sym plan));
+      same_feeds = ap (λ (s : StartState). s.feeds) same ∙ (r.same_feeds ∙ ap feeds_of (sym plan));
       some_slots = (let some = r.some_slots in omega (arith, slots, some));
       flagged = flags_by one w e v flags r.shows.started h ∙ (r.flagged ∙ ap (λ (p : PlanState). length p.slaves) (sym plan));
       kinds = subst (λ (p : PlanState). Each (OfKinds p.slaves) v.slaves) (sym plan) kinds.each;
-      whole = whole.each;
+      fit = fit.each;
       holds = step_holds w e v one h r.holds;
     }
 
@@ -76,12 +79,13 @@ unfolding begun
 stop_fails s m = refl
 
 -- a stop
-now_rises : (flags : List Bool) (w v : WorldState) → IsUsable w.plan → Runs flags w → IsStep w Stop v true → Rising flags v
-now_rises flags w v usable r h =
+now_rises : (flags : List Bool) (w v : WorldState) → IsUsable w.plan → AreStartable w.plan.slaves → Runs flags w → IsStep w Stop v true → Rising flags v
+now_rises flags w v usable planned r h =
     let u : WorldState = record w { start = stopped w.start w.master } in
     let can = and_parts (is_up w.start) _ (sym h.can) in
     let free = and_parts (is_none w.master.cycle) _ can.1 in
     let same : u.start.plan ≡ w.plan.slaves = stopped_plan w.start w.master ∙ r.same_plan in
+    let feeds : u.start.feeds ≡ feeds_of w.plan = stopped_feeds w.start w.master ∙ r.same_feeds in
     let starts : Starts (ends_of w.plan.slaves) (starting_of u flags None) = record {
       slaves = record {
         slaves = r.shows.count ∙ ap length (sym same);
@@ -89,15 +93,17 @@ now_rises flags w v usable r h =
         few = subst (λ (ps : List SlavePlan). length ps ≤ 64) (sym same) usable.few_slaves;
         each = subst (λ (ps : List SlavePlan). (i : ℕ) → i < length ps → IsOfKind (kind_at ps i) (slave_of w i)) (sym same) r.kinds;
       };
+      feeds = subst (AreFeedsOf u.start.plan) (sym feeds) (subst (λ (ps : List SlavePlan). AreFeedsOf ps (feeds_of w.plan)) (sym same) (parts_can_be_fed w.plan usable planned.each));
       instant = Over (record { failure = Lost; failed = stop_fails w.start w.master });
     } in
     subst (Rising flags) (sym (h.happens refl)) (record {
       same_plan = same;
+      same_feeds = feeds;
       slot = None;
       starts = starts;
       slots = λ k. all-none w.slots k (eqb-true (nones w.slots) (length w.slots) free.1);
       some_slots = r.some_slots;
-      fit = r.whole;
+      fit = r.fit;
       master_plan = r.shows.same_plan;
       no_cycle = no_cycle w.master.cycle free.0;
       master_ready = λ up. absurd (both_ways _ (stopped_low w.start w.master) up);
@@ -233,7 +239,7 @@ run_leads (e ∷ es) old new made flags usable planned (FromHigh r) h =
       | inr stop ↦
           let does : IsStep old Stop mid true = stop_step old e mid h.1 stop.0 stop.1 h.3 in
           let low : is_up mid.start ≡ false = ap (λ (w : WorldState). is_up w.start) (does.happens refl) ∙ stopped_low old.start old.master in
-          (elim (run_leads es mid new h.2 now good startable (FromLow (subst (λ (fs : List Bool). Rising fs mid) (sym (stop_flags old e h.1 flags stop.0)) (now_rises flags old mid usable r does)) low) h.4) as (λ _. Leads old (e ∷ es) new made flags) [
+          (elim (run_leads es mid new h.2 now good startable (FromLow (subst (λ (fs : List Bool). Rising fs mid) (sym (stop_flags old e h.1 flags stop.0)) (now_rises flags old mid usable planned r does)) low) h.4) as (λ _. Leads old (e ∷ es) new made flags) [
             | inl on ↦ absurd (both_ways _ low on.0)
             | inr c ↦ inr (later old e es mid new h.1 h.2 made flags h.3 h.5 c)
           ])

@@ -8,7 +8,7 @@ usable-of t plan sound free is = subst IsUsable (sym is) (plan_usable t sound fr
 
 pub few-of : (t : Contents) (plan : PlanState) → table.IsSound t → compile_fault t ≡ None → plan ≡ plan_of t → All HasFewAssigned plan.slaves
 few-of t plan sound free is = subst (λ (p : PlanState). All HasFewAssigned p.slaves) (sym is)
-    (startable_is_taken (plan_of t).slaves (All-from_get_or IsStartable (plan_of t).slaves no_plan (are-plans t sound free).planned))
+    (startable_is_taken (plan_of t).slaves (All-from_get_or IsStartable (plan_of t).slaves no_plan (are-plans t sound free).plans.planned))
 
 -- a run of a new world
 pub told-new : (t : Contents) (is : List Identity) (w : WorldState) (es : List Event) (v : WorldState) (made : ℕ) → IsNew t is w → IsRun w es v made → RunOutcome w es v made (no_trouble w)

@@ -1,11 +1,14 @@
 -- A world whose start-up is ready refines a plain state.
-use Rattle.ec_world.proofs.Words.{ℕ, zero, suc, ◌<◌, ◌≡◌, ◌⊎◌, Bool, true, false, Option, Some, None, refl, sym, ◌∙◌, ap, subst, inl, inr, arith, List, [], ◌∷◌, length, map, get_or, option_map, get_or-map as get_or-mapped, ext_get_or, get_or_past, list_get_or-map as get_or-map, length-map, length-replicate, bytes_of_bits, no_settings, no_fmmu, Identity, SlaveKind, Buffer, emptied_buffer, SyncManager, no_manager, buffer_length, switched_on, SlaveState, manager_at, power_on, SlavePlan, slave_at as settings_of, AreListed, input_manager, IsUsable, listed, IsStartable, end_of, Phase, Ready, IsOfKind, unviewed, Config, OpenCycle, fmmus-held, Starting, trouble_at, no_plan, kind_at, Starts, Between, UnderWay, Adrift, Over, IsReady, AreStartable, ends_of, HoldsAll, SlaveHealth, ready-shown, PlainSlave, Health, Working, Faulted, Reset, no_plain_slave, plain_slave, all_progress, WorldState, Flight, no_slave, slave_of, flights_progress, is_up, phase_ready, phase_awaits, Holds, IsQuiet, HoldsData, IsAs, SlaveRefines, CyclesRefine, said, AreWhole, SlotsHold, starting_of, Rising, health_of, plain_slave_of, plain_of, ShowsZeros, IsReadyWorld, none_some, PlainFrame, FrameRefines, ReportRefines, flight_at}
+use Rattle.ec_world.proofs.Words.{ℕ, zero, suc, ◌<◌, ◌≡◌, ◌⊎◌, Bool, true, false, Option, Some, None, refl, sym, ◌∙◌, ap, subst, inl, inr, arith, List, [], ◌∷◌, length, map, get_or, option_map, get_or-map as get_or-mapped, ext_get_or, get_or_past, list_get_or-map as get_or-map, length-map, length-replicate, bytes_of_bits, no_settings, no_fmmu, Identity, SlaveKind, Buffer, emptied_buffer, SyncManager, no_manager, buffer_length, switched_on, SlaveState, manager_at, power_on, SlavePlan, slave_at as settings_of, AreListed, input_manager, IsUsable, listed, IsStartable, end_of, Phase, Ready, IsOfKind, unviewed, Config, OpenCycle, fmmus-held, Starting, trouble_at, no_plan, kind_at, Starts, Between, UnderWay, Feeding, Adrift, Over, IsReady, AreStartable, ends_of, HoldsAll, SlaveHealth, ready-shown, PlainSlave, Health, Working, Faulted, Reset, no_plain_slave, plain_slave, all_progress, WorldState, Flight, no_slave, slave_of, flights_progress, is_up, phase_ready, phase_awaits, Holds, IsQuiet, HoldsData, IsAs, SlaveRefines, CyclesRefine, said, IsFit, SlotsHold, starting_of, Rising, health_of, plain_slave_of, plain_of, ShowsZeros, IsReadyWorld, none_some, PlainFrame, FrameRefines, ReportRefines, flight_at}
 use Rattle.ec_bringup.specs.Runs as rise
-use Rattle.ec_world.proofs.Refinement.ProcessManagers.{third_held, fourth_held, buffer_long, set_for_ins}
+use Rattle.ec_world.proofs.Refinement.ProcessManagers.{third_held, fourth_held, buffer_long, set_for_ins, buffered_ins}
+use Rattle.ec_device.specs.Hardware.{in_manager}
 use Rattle.ec_world.proofs.Refinement.ApplicationEvents.{out_length, state_on}
 
 in_length : (p : SlavePlan) → AreListed p → buffer_length (input_manager p) ≡ bytes_of_bits p.share.ins
-in_length p a = buffer_long p.share.ins p.kind.in_start 0x20 (λ l. set_for_ins p.share.ins p.kind.in_start l a.in_fits) refl
+in_length p a =
+    let ic : ℕ = (in_manager p.kind.hardware).control in
+    buffer_long p.share.ins p.kind.in_start ic (λ l. set_for_ins p.share.ins p.kind.in_start ic a.in_mode l a.in_fits) (buffered_ins p.share.ins p.kind.in_start ic a.in_mode)
 
 -- ---- one slave
 
@@ -16,7 +19,7 @@ shows-zeros b n h = h ∙ ap (λ (k : ℕ). emptied_buffer k) (sym (ap (λ (x : 
 on-zeros : (kind : SlaveKind) (identity : Identity) → ShowsZeros (plain_slave_of (power_on kind identity)).outputs
 on-zeros kind identity = subst (λ (ms : List SyncManager). ShowsZeros (manager_at ms 2).buffer) (sym (switched_on kind identity).managers) (shows-zeros no_manager.buffer (buffer_length no_settings) refl)
 
-module _ (i : ℕ) (p : SlavePlan) (s : SlaveState) (listed : AreListed p) (good : IsStartable p) (slave : IsOfKind p.kind s) (fit : AreWhole s) where
+module _ (i : ℕ) (p : SlavePlan) (s : SlaveState) (listed : AreListed p) (good : IsStartable p) (slave : IsOfKind p.kind s) (fit : IsFit s) where
   held : HoldsAll i p s → Holds i p s
   held h =
       let c = h.configured in
@@ -46,8 +49,8 @@ module _ (i : ℕ) (p : SlavePlan) (s : SlaveState) (listed : AreListed p) (good
   values h =
       let outs : buffer_length (manager_at s.managers 2).settings ≡ bytes_of_bits p.share.outs = ap buffer_length (third_held i p s (held h) listed) ∙ out_length p listed in
       let ins : buffer_length (manager_at s.managers 3).settings ≡ bytes_of_bits p.share.ins = ap buffer_length (fourth_held i p s (held h) listed) ∙ in_length p listed in
-      let f = fit 2 in
-      let g = fit 3 in
+      let f = fit.whole 2 in
+      let g = fit.whole 3 in
       record {
         outputs = refl;
         inputs = refl;
@@ -60,7 +63,7 @@ module _ (i : ℕ) (p : SlavePlan) (s : SlaveState) (listed : AreListed p) (good
 
   pub slave-shows : (flag : Bool) → SlaveHealth i p flag s → SlaveRefines i p s (plain_slave_of s)
   slave-shows flag (rise.Working h) = shown-as Working (ap health_of h.in_op.state_is)
-      (assumption (held h.holds, quiet-of h.holds h.in_op.no_request, values h.holds, h.unlocked 2 (omega arith), h.unlocked 3 (omega arith)))
+      (assumption (held h.holds, quiet-of h.holds h.in_op.no_request, values h.holds, h.unlocked 2 (omega arith), h.unlocked 3 (omega arith), fit.awaits.in_op h.in_op.state_is))
   slave-shows flag (rise.Faulted t h) = shown-as Faulted (ap health_of h.state)
       (assumption (held h.holds, quiet-of h.holds h.no_request, values h.holds, h.unlocked 3 (omega arith) (omega arith)))
   slave-shows flag (rise.WasReset t h) = shown-as Reset (ap health_of (state_on s h)) (record { kind = slave.kind_is; as_on = h })
@@ -88,7 +91,7 @@ up-ready Ready e = refl
 up-ready _ e = absurd (let z : false ≡ true = e in cc)
 
 ready-slot : (ends : ℕ → Config) (v : Starting) → Starts ends v → v.start.phase ≡ Ready → v.slot ≡ None
-ready-slot ends v h e = elim h.instant [ Between b ↦ b.empty | UnderWay b ↦ absurd (cc (sym b.sent ∙ e)) | Adrift b ↦ b.empty | Over b ↦ absurd (cc (sym b.failed ∙ e)) | IsReady b ↦ b.empty ]
+ready-slot ends v h e = elim h.instant [ Between b ↦ b.empty | UnderWay b ↦ absurd (cc (sym b.sent ∙ e)) | Feeding b ↦ absurd (cc (sym b.sent ∙ e)) | Adrift b ↦ b.empty | Over b ↦ absurd (cc (sym b.failed ∙ e)) | IsReady b ↦ b.empty ]
 
 -- it has no frame on its way
 pub no-slots : (flags : List Bool) (w : WorldState) → Rising flags w → is_up w.start ≡ true → (k : ℕ) → get_or w.slots k None ≡ None

@@ -1,13 +1,14 @@
--- What lasts of slaves, whatever happens in a world: they stay of their types, and their values whole.
-use Rattle.ec_world.proofs.Words.{ℕ, ◌<◌, ◌≡◌, Bool, true, false, Option, Some, refl, sym, ◌∙◌, ap, subst, inl, inr, List, [], ◌∷◌, length, get_or, set, unwrap_or, length-set, and_parts, State, Op, Datagram, SlaveKind, SlaveState, slave_met, passes, input_put, output_got, output_taken, Got, served, faulted, power_on, AreWhole, stay_whole, on_whole, SlavePlan, kind_at, plan_at, IsOfKind, IsGenuine, AreGenuine, stays, Event, StartNext, Begin, Pass, Return, Close, Set, Lose, Serve, AppPut, AppGet, Fault, ResetSlave as Reset, Stop, WorldState, no_slave, slave_of, is_slave, awaits, can_happen, Happens, IsStep, IsRun, ByStart, StartReturns, Returns, GivesUp, Closes}
+-- What lasts of slaves, whatever happens in a world: they stay of their types, and fit.
+use Rattle.ec_world.proofs.Words.{ℕ, ◌<◌, ◌≡◌, Bool, true, false, Option, Some, refl, sym, ◌∙◌, ap, subst, inl, inr, List, [], ◌∷◌, length, get_or, set, unwrap_or, length-set, and_parts, State, Op, Datagram, SlaveKind, SlaveState, slave_met, passes, input_put, output_got, output_taken, Got, served, faulted, power_on, IsFit, SlavePlan, kind_at, plan_at, IsOfKind, IsGenuine, AreGenuine, stays, Event, StartNext, Begin, Pass, Return, Close, Set, Lose, Serve, AppPut, AppGet, Fault, ResetSlave as Reset, Stop, WorldState, no_slave, slave_of, is_slave, awaits, can_happen, Happens, IsStep, IsRun, ByStart, StartReturns, Returns, GivesUp, Closes}
 use Rattle.ec_al.specs.Al as al
 use Rattle.ec_bringup.specs.Stages.{Before}
 use Rattle.ec_bringup.specs.Standing.{Stands}
 use Rattle.ec_bringup.specs.Keeping.{StaysStanding}
-use Rattle.ec_slave.specs.Interface.{Assignment, all_assigned}
+use Rattle.ec_slave.specs.Interface.{Assignment, all_assigned, is_missing}
 use Rattle.ec_slave.proofs.Always.DatagramsKeepTheInside.{inside_kept}
 use Rattle.ec_bringup.proofs.OneSlave.SlaveLaw.{stays-standing}
 use Rattle.ec_world.proofs.SlotLaws.Clearance.{at_set}
+use Rattle.ec_world.proofs.StartUp.Rising.{stays_fit, on_fit}
 use Rattle.ec_world.proofs.Runs.OneOutcomeLaw.{HoldsFrames, step_holds}
 
 -- ---- what one slave keeps, by its number
@@ -45,6 +46,7 @@ kind_met kind s d h =
         ins = k.ins ∙ (f.ins ∙ ap (λ (x : SlaveKind). all_assigned x.inputs) (sym k.kind));
       };
       unlocked_in_init = λ e n l. k.locked n ∙ h.unlocked_in_init (sym k.state ∙ e) n l;
+      missing = λ a e. k.missing a (ap (λ (x : SlaveKind). is_missing x.hardware a) h.kind_is ∙ e) ∙ h.missing a e;
     }
 
 kind_passed : (kind : SlaveKind) (ds : List Datagram) (s : SlaveState) → IsOfKind kind s → IsOfKind kind (passes s ds).slave
@@ -61,22 +63,22 @@ kinds_last ps = record {
   resets = λ k s h l. (keeps (kind_at ps k) s (h l)).resets.slave;
 }
 
--- its values
-abbrev pub IsWhole : ℕ → SlaveState → Type 0
-IsWhole k s = AreWhole s
+-- that it is fit
+abbrev pub Fit : ℕ → SlaveState → Type 0
+Fit k s = IsFit s
 
-whole_passed : (ds : List Datagram) (s : SlaveState) → AreWhole s → AreWhole (passes s ds).slave
-whole_passed [] s h = h
-whole_passed (d ∷ ds) s h = whole_passed ds (slave_met s d) ((stay_whole s h).met d)
+fit_passed : (ds : List Datagram) (s : SlaveState) → IsFit s → IsFit (passes s ds).slave
+fit_passed [] s h = h
+fit_passed (d ∷ ds) s h = fit_passed ds (slave_met s d) ((stays_fit s h).met d)
 
-pub whole_last : Lasts IsWhole
-whole_last = record {
-  meets = λ k s ds h. whole_passed ds s h;
-  serves = λ k s h. (stay_whole s h).served;
-  puts = λ k s i x t put h. (stay_whole s h).put i x t put;
-  gets = λ k s i g got h. subst (λ (o : Option Got). AreWhole (output_taken s o)) got ((stay_whole s h).taken i);
-  faults = λ k s op h. (stay_whole s h).faulted;
-  resets = λ k s h. on_whole s.kind s.identity;
+pub fits_last : Lasts Fit
+fits_last = record {
+  meets = λ k s ds h. fit_passed ds s h;
+  serves = λ k s h. (stays_fit s h).served;
+  puts = λ k s i x t put h. (stays_fit s h).put i x t put;
+  gets = λ k s i g got h. subst (λ (o : Option Got). IsFit (output_taken s o)) got ((stays_fit s h).taken i);
+  faults = λ k s op h. (stays_fit s h).faulted;
+  resets = λ k s h. on_fit s.kind s.identity;
 }
 
 -- that it is a device of its type

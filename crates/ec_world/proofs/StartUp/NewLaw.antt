@@ -1,5 +1,5 @@
 -- From a new world, and after a failure, a start-up that nothing disturbs ends Ready.
-use Rattle.ec_world.proofs.Words.{ℕ, zero, suc, ◌<◌, ◌≡◌, refl, sym, ◌∙◌, ap, arith, List, [], ◌∷◌, length, get_or, None, ◌+◌, ◌⊎◌, true, false, if◌then◌else◌, Option, subst, inl, inr, ◌++◌, replicate, Identity, SlavePlan, plan_of, PlanState, plan_sound, BringupRising as Rising, turns, stay, of-types, with-types, Contents, IsTurn, AreTurns, BringUp, IsToStart, IsBroughtUp, NewLaw, MachineLaw, rising_of, append-nil, length-append, SlaveState, plan_usable, MasterState, readied, cycle_limit, StartError, Phase, Idle, Ready, Failed, script, StartState, begun, IsUpAndWorks, AreStartable, are-plans, compiled-up, Event, WorldState, Flight, flight_at, phase_ready, phase_awaits, is_up, awaits, resumed, ready_with, IsRun, IsNew, new_world, all_none, none_free}
+use Rattle.ec_world.proofs.Words.{ℕ, zero, suc, ◌<◌, ◌≡◌, refl, sym, ◌∙◌, ap, arith, List, [], ◌∷◌, length, get_or, None, ◌+◌, ◌⊎◌, true, false, if◌then◌else◌, Option, subst, inl, inr, ◌++◌, replicate, Identity, SlavePlan, plan_of, PlanState, plan_sound, BringupRising as Rising, turns, stay, of-types, with-types, Contents, IsTurn, AreTurns, BringUp, IsToStart, IsBroughtUp, NewLaw, MachineLaw, rising_of, append-nil, length-append, SlaveState, plan_usable, MasterState, readied, cycle_limit, StartError, Phase, Idle, Ready, Failed, script, StartState, Feed, feeds_of, frames_of, begun, IsUpAndWorks, AreStartable, are-plans, compiled-up, Event, WorldState, Flight, flight_at, phase_ready, phase_awaits, is_up, awaits, resumed, ready_with, IsRun, IsNew, new_world, all_none, none_free}
 use Rattle.ec_world.proofs.StartUp.ScriptFits.{script_fits}
 use Rattle.ec_world.proofs.Runs.Sizes.{run_same}
 use Rattle.ec_world.proofs.StartUp.WholeLaw.{StillRises, still_rises, new-rises, new-low, new-holds}
@@ -97,42 +97,46 @@ turns_all (suc k) n w s es v made m are h =
 
 -- ---- from where
 
-some_script : (ps : List SlavePlan) → (k : ℕ) × (length (script ps) ≡ suc k)
-some_script [] = (_, refl)
-some_script (p ∷ ps) = (_, refl)
+one_more : (n : ℕ) → (k : ℕ) × (1 + n ≡ suc k)
+one_more n = (n, omega arith)
+
+-- a script begins with an action before which no part is fed
+some_script : (fs : List Feed) (ps : List SlavePlan) → (k : ℕ) × (frames_of fs (script ps) ≡ suc k)
+some_script fs [] = one_more 0
+some_script fs (p ∷ ps) = one_more _
 
 pub free_slots : (n : ℕ) (os : List (Option Flight)) → length os ≡ n → ((k : ℕ) → get_or os k None ≡ None) → os ≡ replicate n None
 free_slots n os e h = all_none os h ∙ ap (λ m. replicate m None) e
 
-record IsAnew (w : WorldState) (ps : List SlavePlan) : Type 0 where
-  resumes : w.start.plan ≡ ps → resumed w.start w.start.phase ≡ begun ps w.start.next
+record IsAnew (w : WorldState) (ps : List SlavePlan) (fs : List Feed) : Type 0 where
+  resumes : w.start.plan ≡ ps → w.start.feeds ≡ fs → resumed w.start w.start.phase ≡ begun ps fs w.start.next
   not_up : is_up w.start ≡ false
   none_awaited : awaits w.start ≡ false
 
-anew : (w : WorldState) (ps : List SlavePlan) → (w.start ≡ begun ps w.start.next) ⊎ ((failure : StartError) × (w.start.phase ≡ Failed failure)) → IsAnew w ps
+anew : (w : WorldState) (ps : List SlavePlan) (fs : List Feed) → (w.start ≡ begun ps fs w.start.next) ⊎ ((failure : StartError) × (w.start.phase ≡ Failed failure)) → IsAnew w ps fs
 unfolding begun
-anew w ps (inl e) =
+anew w ps fs (inl e) =
     let idle : w.start.phase ≡ Idle = ap (λ (s : StartState). s.phase) e in
     record {
-      resumes = λ q. ap (λ (p : Phase). resumed w.start p) idle ∙ e;
+      resumes = λ q g. ap (λ (p : Phase). resumed w.start p) idle ∙ e;
       not_up = ap (λ (p : Phase). phase_ready p) idle;
       none_awaited = ap (λ (p : Phase). phase_awaits p) idle;
     }
-anew w ps (inr h) = record {
-  resumes = λ q. ap (λ (p : Phase). resumed w.start p) h.1 ∙ ap (λ (qs : List SlavePlan). begun qs w.start.next) q;
+anew w ps fs (inr h) = record {
+  resumes = λ q g. ap (λ (p : Phase). resumed w.start p) h.1 ∙ (ap (λ (qs : List SlavePlan). begun qs w.start.feeds w.start.next) q ∙ ap (λ (gs : List Feed). begun ps gs w.start.next) g);
   not_up = ap (λ (p : Phase). phase_ready p) h.1;
   none_awaited = ap (λ (p : Phase). phase_awaits p) h.1;
 }
 
-begun_next : (ps : List SlavePlan) (n : ℕ) → (begun ps n).next ≡ n
+begun_next : (ps : List SlavePlan) (fs : List Feed) (n : ℕ) → (begun ps fs n).next ≡ n
 unfolding begun
-begun_next ps n = refl
+begun_next ps fs n = refl
 
 -- what holds of a world from which a start-up is to begin
 risen : (t : Contents) (w : WorldState) (s : IsToStart t w) → is_up w.start ≡ false → StillRises (plan_of t).slaves (new_world (plan_of t) s.identities) w
 risen t w s low =
     let n = s.new in
-    let planned : AreStartable (plan_of t).slaves = record { each = (are-plans t n.sound n.accepted).planned } in
+    let planned : AreStartable (plan_of t).slaves = (let a = (are-plans t n.sound n.accepted).plans in record { each = a.planned; alike = a.alike }) in
     let usable = plan_usable t n.sound n.accepted in
     still_rises s.events (plan_of t).slaves (new_world (plan_of t) s.identities) w s.made _ usable planned
     (new-rises (plan_of t) s.identities usable planned (n.one_each ∙ sym ((plan_sound t n.sound n.accepted).as_many))) (new-low (plan_of t) s.identities)
@@ -142,32 +146,33 @@ risen t w s low =
 -- what holds where a start-up is to begin
 pub record IsBeginning (t : Contents) (w : WorldState) : Type 0 where
   pub k : ℕ
-  pub long : length (script (plan_of t).slaves) ≡ suc k
-  pub turns_left : MayTurn k 63 w (begun (plan_of t).slaves w.start.next)
+  pub long : frames_of (feeds_of (plan_of t)) (script (plan_of t).slaves) ≡ suc k
+  pub turns_left : MayTurn k 63 w (begun (plan_of t).slaves (feeds_of (plan_of t)) w.start.next)
   pub many : length w.slaves ≡ length t.slaves
   pub no_cycle : w.master.cycle ≡ None
-  pub up : IsUpAndWorks (plan_of t).slaves (w.start.next + length (script (plan_of t).slaves)) (turns (suc k) (from_state (begun (plan_of t).slaves w.start.next) w.slaves))
+  pub up : IsUpAndWorks (plan_of t).slaves (w.start.next + frames_of (feeds_of (plan_of t)) (script (plan_of t).slaves)) (turns (suc k) (from_state (begun (plan_of t).slaves (feeds_of (plan_of t)) w.start.next) w.slaves))
 
 pub beginning : (t : Contents) (w : WorldState) → IsToStart t w → IsBeginning t w
 beginning t w s =
     let ps : List SlavePlan = (plan_of t).slaves in
+    let fs : List Feed = feeds_of (plan_of t) in
     let new = s.new in
-    let a : IsAnew w ps = anew w ps s.begins in
+    let a : IsAnew w ps fs = anew w ps fs s.begins in
     let r : StillRises ps (new_world (plan_of t) s.identities) w = risen t w s a.not_up in
     let from : ℕ = w.start.next in
     let up = compiled-up t new.sound new.accepted from w.slaves (stay ps w.slaves r.devices).devices in
-    let k = some_script ps in
+    let k = some_script fs ps in
     let long = k.1 in
     let room = s.numbers in
-    let works : IsUpAndWorks ps (from + length (script ps)) (turns (suc k.0) (from_state (begun ps from) w.slaves))
-    = subst (λ (m : ℕ). IsUpAndWorks ps (from + length (script ps)) (turns m (from_state (begun ps from) w.slaves))) long up.0 in
+    let works : IsUpAndWorks ps (from + frames_of fs (script ps)) (turns (suc k.0) (from_state (begun ps fs from) w.slaves))
+    = subst (λ (m : ℕ). IsUpAndWorks ps (from + frames_of fs (script ps)) (turns m (from_state (begun ps fs from) w.slaves))) long up.0 in
     record {
       k = k.0;
       long = long;
       turns_left = record {
         can = record {
-          resumes = a.resumes (r.rises.same_plan ∙ ap (λ (p : PlanState). p.slaves) r.plan_is);
-          next = begun_next ps from;
+          resumes = a.resumes (r.rises.same_plan ∙ ap (λ (p : PlanState). p.slaves) r.plan_is) (r.rises.same_feeds ∙ ap feeds_of r.plan_is);
+          next = begun_next ps fs from;
           not_up = a.not_up;
           none_awaited = a.none_awaited;
           few = omega (arith, room, long);
@@ -187,12 +192,13 @@ high_master m x e = rw e refl
 pub comes_up : (t : Contents) (w : WorldState) → IsToStart t w → (events : List Event) (v : WorldState) (made : ℕ) → BringUp t events → IsRun w events v made → IsBroughtUp t w events v made
 comes_up t w s events v made are h =
     let ps : List SlavePlan = (plan_of t).slaves in
+    let fs : List Feed = feeds_of (plan_of t) in
     let b : IsBeginning t w = beginning t w s in
     let from : ℕ = w.start.next in
-    let turned : HaveTurned (suc b.k) 63 w (begun ps from) events v made
-    = turns_all b.k 63 w (begun ps from) events v made b.turns_left
+    let turned : HaveTurned (suc b.k) 63 w (begun ps fs from) events v made
+    = turns_all b.k 63 w (begun ps fs from) events v made b.turns_left
     (subst (λ (m : ℕ). AreTurns m (suc b.k) events) (sym b.many) (subst (λ (m : ℕ). AreTurns (length t.slaves) m events) b.long are)) h in
-    let works : IsUpAndWorks ps (from + length (script ps)) (rising_of v) = subst (IsUpAndWorks ps (from + length (script ps))) (sym turned.is) b.up in
+    let works : IsUpAndWorks ps (from + frames_of fs (script ps)) (rising_of v) = subst (IsUpAndWorks ps (from + frames_of fs (script ps))) (sym turned.is) b.up in
     let now : is_up v.start ≡ true = ap (λ (p : Phase). phase_ready p) works.ready in
     let master : v.master ≡ readied w.master v.start.next = turned.master ∙ high_master w.master v.start now in
     record {
@@ -222,7 +228,7 @@ new_law t identities w n d = record {
   made = 0;
   reached = (refl, refl);
   no_frame = λ k. ap (λ (x : WorldState). flight_at x k) n.is ∙ none_free 64 k;
-  begins = inl (ap (λ (x : WorldState). x.start) n.is ∙ ap (λ (k : ℕ). begun (plan_of t).slaves k) (sym (ap (λ (x : WorldState). x.start.next) n.is)));
+  begins = inl (ap (λ (x : WorldState). x.start) n.is ∙ ap (λ (k : ℕ). begun (plan_of t).slaves (feeds_of (plan_of t)) k) (sym (ap (λ (x : WorldState). x.start.next) n.is)));
   numbers = let fits = script_fits t n.sound n.accepted in let z : w.start.next ≡ 0 = ap (λ (x : WorldState). x.start.next) n.is in omega (arith, fits, z);
 }
 

@@ -1,8 +1,33 @@
 -- Every event keeps a world that starts up one.
-use Rattle.ec_world.proofs.Words.{ℕ, zero, suc, ◌+◌, ◌<◌, ◌≤◌, ◌≡◌, ◌≢◌, ◌==◌, ◌||◌, not, Bool, true, false, Option, Some, None, refl, sym, ◌∙◌, ap, subst, inl, inr, arith, if◌then◌else◌, List, [], ◌∷◌, length, set, get_or, option_map, is_some, nat_lt, unwrap_or, cases_Bool, cases_eq, both_ways, and_parts, eqb-true, ltb-true, length-set, list_get_or-set_same as get_or-set_same, list_get_or-set_other as get_or-set_other, State, Op, Payload, with_datagrams, bare_payload, SlaveState, power_on, passes, Passed, slave_met, datagram_met, input_put, output_got, output_taken, Got, served, faulted, SlavePlan, nones, MasterState, OpenCycle, IsAnswer, readied, name_datagram, frame_of, datagram_of, StartError, Lost, StartState, action_of, sending, begun, taken, given_up_by, second, Phase, Idle, Sent, Ready, Failed, Config, Starting, Carried, trouble_at, Starts, Between, UnderWay, Adrift, Over, IsReady, IsCarried, AreStartable, ends_of, flags_sent, with_begun, with_slave_at, SendsNext, PassesOne, LosesOne, ReturnsOne, Strays, ClosesOne, BringupServes as Serves, PutsOne, GetsOne, Faults, Resets, taken-plan, happens-starts, begun-starts, frame-passes, Event, StartNext, Set, Begin, Pass, Lose, Return, Close, Serve, AppPut, AppGet, Fault, ResetSlave, Stop, filled, may_pass, may_return, WorldState, Flight, no_slave, slave_of, flight_at, flight_progress, flights_progress, is_up, awaits, phase_awaits, phase_ready, is_slave, can_happen, resumed, ready_with, ByStart, Sends, Passes, Returns, StartReturns, GivesUp, Closes, Happens, with_slave, AreWhole, flags_after, IsInSlot, SlotsHold, starting_of, Rising, stay_whole, on_whole, get_or-set_default, none_some, some_same, variable_set, filled-none, filled-length, set-get_or, some_of}
+use Rattle.ec_world.proofs.Words.{ℕ, zero, suc, ◌+◌, ◌<◌, ◌≤◌, ◌≡◌, ◌≢◌, ◌==◌, ◌||◌, not, Bool, true, false, Option, Some, None, refl, sym, ◌∙◌, ap, subst, inl, inr, arith, if◌then◌else◌, List, [], ◌∷◌, length, set, get_or, option_map, is_some, nat_lt, unwrap_or, cases_Bool, cases_eq, both_ways, and_parts, eqb-true, ltb-true, length-set, list_get_or-set_same as get_or-set_same, list_get_or-set_other as get_or-set_other, State, Op, Identity, SlaveKind, Payload, with_datagrams, bare_payload, SlaveState, power_on, passes, Passed, slave_met, datagram_met, input_put, output_got, output_taken, Got, served, faulted, SlavePlan, nones, MasterState, OpenCycle, IsAnswer, readied, name_datagram, frame_of, datagram_of, StartError, Lost, StartState, action_of, sending, begun, taken, given_up_by, second, Phase, Idle, Sent, Ready, Failed, Config, Starting, Carried, trouble_at, Starts, Between, UnderWay, Adrift, Over, IsReady, Feeding, HasSamePlan, IsCarried, AreStartable, ends_of, flags_sent, with_begun, with_slave_at, SendsNext, PassesOne, LosesOne, ReturnsOne, Strays, ClosesOne, BringupServes as Serves, PutsOne, GetsOne, Faults, Resets, happens-on, begun-starts, frame-passes, Event, StartNext, Set, Begin, Pass, Lose, Return, Close, Serve, AppPut, AppGet, Fault, ResetSlave, Stop, filled, may_pass, may_return, WorldState, Flight, no_slave, slave_of, flight_at, flight_progress, flights_progress, is_up, awaits, phase_awaits, phase_ready, is_slave, can_happen, resumed, ready_with, ByStart, Sends, Passes, Returns, StartReturns, GivesUp, Closes, Happens, with_slave, IsFit, flags_after, IsInSlot, SlotsHold, starting_of, Rising, stay_whole, on_whole, nothing_awaited, stays_outside, get_or-set_default, none_some, some_same, variable_set, filled-none, filled-length, set-get_or, some_of}
 use Rattle.ec_world.proofs.StartUp.TurnEvents.{second-good}
 use Rattle.ec_world.proofs.SlotLaws.Clearance.{at_set}
+use Rattle.ec_frame.specs.Datagram.{Datagram}
+use Rattle.ec_start.specs.declared.error.StartError.TheVariants.{TooSlow}
+use Rattle.ec_start.specs.declared.verdict.Verdict.{Verdict}
+use Rattle.ec_start.specs.declared.verdict.Verdict.TheVariants.{Next, Word, Fed, Again, Fails}
+use Rattle.ec_start.specs.Verdicts.{verdict}
+use Rattle.ec_start.specs.Running.{judged, type_of}
 use Rattle.ec_al.specs.Al as al
+
+-- ---- a start-up keeps its plan and its feeds
+
+same-start : (s : StartState) → HasSamePlan s s
+same-start s = record { plan = refl; feeds = refl }
+
+again-same : (s : StartState) (b : Bool) → HasSamePlan s (if b then record s { phase = Failed (TooSlow s.place) } else record s { fed = 0; polls = s.polls + 1; phase = Idle })
+again-same s true = record { plan = refl; feeds = refl }
+again-same s false = record { plan = refl; feeds = refl }
+
+judged-same : (s : StartState) (v : Verdict) → HasSamePlan s (judged s v)
+judged-same s Next = record { plan = refl; feeds = refl }
+judged-same s (Word value) = record { plan = refl; feeds = refl }
+judged-same s Fed = record { plan = refl; feeds = refl }
+judged-same s Again = again-same s (s.polls + 1 == 1000)
+judged-same s (Fails error) = record { plan = refl; feeds = refl }
+
+taken-same : (s : StartState) (d : Datagram) → HasSamePlan s (taken s d)
+taken-same s d = judged-same s (verdict (length s.plan) s.place s.seen (type_of s.plan) (action_of s) d)
 
 -- ---- slots
 
@@ -50,6 +75,29 @@ the-one slots k flight c i e = elim (cases_eq k 0) [
 
 -- ---- slaves
 
+-- slaves stay fit, whatever happens
+pub record StaysFit (s : SlaveState) : Type 0 where
+  pub met : (d : Datagram) → IsFit (slave_met s d)
+  pub served : IsFit (served s)
+  pub faulted : IsFit (faulted s)
+  pub put : (i x : ℕ) (t : SlaveState) → input_put s i x ≡ Some t → IsFit t
+  pub taken : (i : ℕ) → IsFit (output_taken s (output_got s i))
+
+pub stays_fit : (s : SlaveState) → IsFit s → StaysFit s
+stays_fit s h =
+    let w = stay_whole s h.whole in
+    let a = stays_outside s h.awaits in
+    record {
+      met = λ d. record { whole = w.met d; awaits = a.met d };
+      served = record { whole = w.served; awaits = a.served };
+      faulted = record { whole = w.faulted; awaits = a.faulted };
+      put = λ i x t e. record { whole = w.put i x t e; awaits = a.put i x t e };
+      taken = λ i. record { whole = w.taken i; awaits = a.taken i };
+    }
+
+pub on_fit : (kind : SlaveKind) (identity : Identity) → IsFit (power_on kind identity)
+on_fit kind identity = record { whole = on_whole kind identity; awaits = nothing_awaited kind identity }
+
 all-set : (P : SlaveState → Type 0) (ss : List SlaveState) (k : ℕ) (t : SlaveState) → ((i : ℕ) → P (get_or ss i no_slave)) → P t → (i : ℕ) → P (get_or (set ss k t) i no_slave)
 all-set P ss k t h p i = elim (at_set ss k i t no_slave) [ inl old ↦ subst P (sym old) (h i) | inr new ↦ subst P (sym new.1) p ]
 
@@ -60,45 +108,45 @@ module _ (flags : List Bool) (w : WorldState) (r : Rising flags w) where
   -- slaves, slots, flags and what was read last change
   pub settled : (now : List Bool) (slaves : List SlaveState) (slots : List (Option Flight)) (slot : Option Carried) (g : Option ℕ)
       → Starts (ends_of w.plan.slaves) (record { start = w.start; slaves = slaves; troubles = now; slot = slot }) → SlotsHold slots slot → 0 < length slots
-      → ((i : ℕ) → AreWhole (get_or slaves i no_slave)) → Rising now (record w { slaves = slaves; slots = slots; got = g })
+      → ((i : ℕ) → IsFit (get_or slaves i no_slave)) → Rising now (record w { slaves = slaves; slots = slots; got = g })
   settled now slaves slots slot g starts hold some fit = search (r, starts, hold, some, fit)
 
   -- the start-up, the master and the slots change
-  pub restarted : (now : List Bool) (s : StartState) (m : MasterState) (slots : List (Option Flight)) (slot : Option Carried) → s.plan ≡ w.start.plan
+  pub restarted : (now : List Bool) (s : StartState) (m : MasterState) (slots : List (Option Flight)) (slot : Option Carried) → HasSamePlan w.start s
       → Starts (ends_of w.plan.slaves) (record { start = s; slaves = w.slaves; troubles = now; slot = slot }) → SlotsHold slots slot → 0 < length slots
       → m.plan ≡ w.plan → m.cycle ≡ None → (is_up s ≡ true → m.is_ready ≡ true) → Rising now (record w { start = s; master = m; slots = slots })
-  restarted now s m slots slot same starts hold some plan cycle ready = search (same ∙ r.same_plan, starts, hold, some, plan, cycle, ready, r)
+  restarted now s m slots slot same starts hold some plan cycle ready = search (same.plan ∙ r.same_plan, same.feeds ∙ r.same_feeds, starts, hold, some, plan, cycle, ready, r)
 
   -- one slave becomes t, and its flag b
-  changed : (k : ℕ) (t : SlaveState) (b : Bool) (g : Option ℕ) → AreWhole t → Starts (ends_of w.plan.slaves) (with_slave_at (starting_of w flags r.slot) k t b)
+  changed : (k : ℕ) (t : SlaveState) (b : Bool) (g : Option ℕ) → IsFit t → Starts (ends_of w.plan.slaves) (with_slave_at (starting_of w flags r.slot) k t b)
       → Rising (set flags k b) (record (with_slave w k t) { got = g })
-  changed k t b g fit starts = settled (set flags k b) (set w.slaves k t) w.slots r.slot g starts r.slots r.some_slots (all-set AreWhole w.slaves k t r.fit fit)
+  changed k t b g fit starts = settled (set flags k b) (set w.slaves k t) w.slots r.slot g starts r.slots r.some_slots (all-set IsFit w.slaves k t r.fit fit)
 
-  unflagged : (k : ℕ) (t : SlaveState) (g : Option ℕ) → AreWhole t → Starts (ends_of w.plan.slaves) (with_slave_at (starting_of w flags r.slot) k t (trouble_at flags k))
+  unflagged : (k : ℕ) (t : SlaveState) (g : Option ℕ) → IsFit t → Starts (ends_of w.plan.slaves) (with_slave_at (starting_of w flags r.slot) k t (trouble_at flags k))
       → Rising flags (record (with_slave w k t) { got = g })
   unflagged k t g fit starts = subst (λ (fs : List Bool). Rising fs (record (with_slave w k t) { got = g })) (set-get_or flags k false) (changed k t (trouble_at flags k) g fit starts)
 
   serve-rises : (k : ℕ) → is_slave w k ≡ true → Rising flags (with_slave w k (served (slave_of w k)))
-  serve-rises k e = unflagged k (served (slave_of w k)) w.got (stay_whole (slave_of w k) (r.fit k)).served
-      (happens-starts (ends_of w.plan.slaves) (starting_of w flags r.slot) _ (Serves k (here k e) refl) r.starts)
+  serve-rises k e = unflagged k (served (slave_of w k)) w.got (stays_fit (slave_of w k) (r.fit k)).served
+      (happens-on w.plan.slaves (starting_of w flags r.slot) _ r.same_plan (Serves k (here k e) refl) r.starts)
 
   put-rises : (k i x : ℕ) (t : SlaveState) → is_slave w k ≡ true → input_put (slave_of w k) i x ≡ Some t → Rising flags (with_slave w k t)
-  put-rises k i x t e put = unflagged k t w.got ((stay_whole (slave_of w k) (r.fit k)).put i x t put)
+  put-rises k i x t e put = unflagged k t w.got ((stays_fit (slave_of w k) (r.fit k)).put i x t put)
       (subst (λ (s : SlaveState). Starts (ends_of w.plan.slaves) (with_slave_at (starting_of w flags r.slot) k s (trouble_at flags k))) (ap (λ (o : Option SlaveState). unwrap_or o (slave_of w k)) put)
-      (happens-starts (ends_of w.plan.slaves) (starting_of w flags r.slot) _ (PutsOne k i x (here k e) refl) r.starts))
+      (happens-on w.plan.slaves (starting_of w flags r.slot) _ r.same_plan (PutsOne k i x (here k e) refl) r.starts))
 
   fault-rises : (k : ℕ) → is_slave w k ≡ true → (slave_of w k).al.state ≡ Op → Rising (set flags k true) (with_slave w k (faulted (slave_of w k)))
-  fault-rises k e op = changed k (faulted (slave_of w k)) true w.got (stay_whole (slave_of w k) (r.fit k)).faulted
-      (happens-starts (ends_of w.plan.slaves) (starting_of w flags r.slot) _ (Faults k (here k e) op refl) r.starts)
+  fault-rises k e op = changed k (faulted (slave_of w k)) true w.got (stays_fit (slave_of w k) (r.fit k)).faulted
+      (happens-on w.plan.slaves (starting_of w flags r.slot) _ r.same_plan (Faults k (here k e) op refl) r.starts)
 
   reset-rises : (k : ℕ) → is_slave w k ≡ true → Rising (set flags k true) (with_slave w k (power_on (slave_of w k).kind (slave_of w k).identity))
-  reset-rises k e = changed k (power_on (slave_of w k).kind (slave_of w k).identity) true w.got (on_whole (slave_of w k).kind (slave_of w k).identity)
-      (happens-starts (ends_of w.plan.slaves) (starting_of w flags r.slot) _ (Resets k (here k e) refl) r.starts)
+  reset-rises k e = changed k (power_on (slave_of w k).kind (slave_of w k).identity) true w.got (on_fit (slave_of w k).kind (slave_of w k).identity)
+      (happens-on w.plan.slaves (starting_of w flags r.slot) _ r.same_plan (Resets k (here k e) refl) r.starts)
 
   get-rises : (k i : ℕ) (g : Got) → is_slave w k ≡ true → output_got (slave_of w k) i ≡ Some g → Rising flags (record (with_slave w k (output_taken (slave_of w k) (Some g))) { got = Some g.byte })
-  get-rises k i g e got = unflagged k (output_taken (slave_of w k) (Some g)) (Some g.byte) (subst (λ (o : Option Got). AreWhole (output_taken (slave_of w k) o)) got ((stay_whole (slave_of w k) (r.fit k)).taken i))
+  get-rises k i g e got = unflagged k (output_taken (slave_of w k) (Some g)) (Some g.byte) (subst (λ (o : Option Got). IsFit (output_taken (slave_of w k) o)) got ((stays_fit (slave_of w k) (r.fit k)).taken i))
       (subst (λ (o : Option Got). Starts (ends_of w.plan.slaves) (with_slave_at (starting_of w flags r.slot) k (output_taken (slave_of w k) o) (trouble_at flags k))) got
-      (happens-starts (ends_of w.plan.slaves) (starting_of w flags r.slot) _ (GetsOne k i (here k e) refl) r.starts))
+      (happens-on w.plan.slaves (starting_of w flags r.slot) _ r.same_plan (GetsOne k i (here k e) refl) r.starts))
 
 -- ---- frames
 
@@ -118,7 +166,7 @@ module _ (flags : List Bool) (w : WorldState) (r : Rising flags w) where
   lose-by None k flight starts holds e = absurd (none_some flight (sym (holds k) ∙ e))
   lose-by (Some c) k flight starts holds e =
       subst (λ (n : ℕ). Rising flags (record w { slots = set w.slots n None })) (sym (the-one w.slots k flight c holds e).place)
-      (with-none (set w.slots 0 None) (set-some 0 None) (emptied w.slots holds.others) (happens-starts (ends_of w.plan.slaves) (seen (Some c)) _ (LosesOne c refl refl) starts))
+      (with-none (set w.slots 0 None) (set-some 0 None) (emptied w.slots holds.others) (happens-on w.plan.slaves (seen (Some c)) _ r.same_plan (LosesOne c refl refl) starts))
 
   lose-rises : (k : ℕ) → is_some (flight_at w k) ≡ true → Rising flags (record w { slots = set w.slots k None })
   lose-rises k e = let f = some_of (flight_at w k) e in lose-by r.slot k f.0 r.starts r.slots f.1
@@ -151,8 +199,8 @@ module _ (flags : List Bool) (w : WorldState) (r : Rising flags w) where
         passed = ap (λ (n : ℕ). n + 1) place;
         carried = own;
       } in
-      subst (Rising flags) (sym is) (settled flags w r flags after.slaves after.slots (Some next) w.got (happens-starts (ends_of w.plan.slaves) (seen (Some c)) _ (PassesOne c refl inside refl) starts) held (set-some 0 (Some gone))
-      (all-set AreWhole w.slaves c.passed (slave_met (slave_of w c.passed) c.datagram) r.fit ((stay_whole (slave_of w c.passed) (r.fit c.passed)).met c.datagram)))
+      subst (Rising flags) (sym is) (settled flags w r flags after.slaves after.slots (Some next) w.got (happens-on w.plan.slaves (seen (Some c)) _ r.same_plan (PassesOne c refl inside refl) starts) held (set-some 0 (Some gone))
+      (all-set IsFit w.slaves c.passed (slave_met (slave_of w c.passed) c.datagram) r.fit ((stays_fit (slave_of w c.passed) (r.fit c.passed)).met c.datagram)))
 
   pass-few : (k : ℕ) → may_pass (length w.slaves) (flights_progress w.slots) (option_map flight_progress (flight_at w k)) ≡ true → (flight : Flight) → flight_at w k ≡ Some flight → flight.passed < length w.slaves
   pass-few k e flight q =
@@ -177,6 +225,7 @@ awaited : (ends : ℕ → Config) (v : Starting) (c : Carried) (number : ℕ) �
 awaited ends v c number h full sent = elim h.instant [
   | Between b ↦ absurd (none_some c (sym b.empty ∙ full))
   | UnderWay b ↦ b.sent ∙ ap (λ (x : Carried). Sent x.number) (some_same b.carried c (sym b.full ∙ full))
+  | Feeding b ↦ b.sent ∙ ap (λ (x : Carried). Sent x.number) (some_same b.carried c (sym b.full ∙ full))
   | Adrift b ↦ absurd (none_some c (sym b.empty ∙ full))
   | Over b ↦ absurd (cc (sym b.failed ∙ sent))
   | IsReady b ↦ absurd (none_some c (sym b.empty ∙ full))
@@ -187,6 +236,7 @@ strayed : (ends : ℕ → Config) (v : Starting) (c : Carried) → Starts ends v
 strayed ends v c h full off = elim h.instant [
   | Between b ↦ absurd (none_some c (sym b.empty ∙ full))
   | UnderWay b ↦ absurd (both_ways _ off (ap (λ (p : Phase). phase_awaits p) b.sent))
+  | Feeding b ↦ absurd (both_ways _ off (ap (λ (p : Phase). phase_awaits p) b.sent))
   | Adrift b ↦ absurd (none_some c (sym b.empty ∙ full))
   | Over b ↦ (b.failure, b.failed)
   | IsReady b ↦ absurd (none_some c (sym b.empty ∙ full))
@@ -208,7 +258,7 @@ module _ (flags : List Bool) (w : WorldState) (r : Rising flags w) (low : is_up 
   ready-cycle s = elim (is_up s) as (λ b. (let m : MasterState = if b then readied w.master s.next else w.master in m.cycle) ≡ None) [ true ↦ r.no_cycle | false ↦ r.no_cycle ]
 
   -- the start-up is another value, and the slots are empty
-  with-start-none : (s : StartState) (slots : List (Option Flight)) → s.plan ≡ w.start.plan → 0 < length slots → ((k : ℕ) → get_or slots k None ≡ None)
+  with-start-none : (s : StartState) (slots : List (Option Flight)) → HasSamePlan w.start s → 0 < length slots → ((k : ℕ) → get_or slots k None ≡ None)
       → Starts (ends_of w.plan.slaves) (record { start = s; slaves = w.slaves; troubles = flags; slot = None }) → Rising flags (record w { start = s; master = ready_with w.master s; slots = slots })
   with-start-none s slots same l none starts = restarted flags w r flags s (ready_with w.master s) slots None same starts none l (ready-plan s) (ready-cycle s) (ready-so s)
 
@@ -233,10 +283,10 @@ module _ (flags : List Bool) (w : WorldState) (r : Rising flags w) (low : is_up 
             let new : StartState = taken w.start c.datagram in
             let is : w2.start ≡ new = p.start.kept car.payload c.datagram kept car.spelled (ap second car.datagrams) in
             subst (Rising flags) (sym (gone new is))
-            (with-start-none new slots (taken-plan w.start c.datagram) there empty (happens-starts ends v _ (ReturnsOne c refl around sent refl) starts))
+            (with-start-none new slots (taken-same w.start c.datagram) there empty (happens-on w.plan.slaves v _ r.same_plan (ReturnsOne c refl around sent refl) starts))
         | inr foreign ↦
             subst (Rising flags) (sym (gone w.start (p.start.foreign foreign)))
-            (with-start-none w.start slots refl there empty (happens-starts ends v _ (LosesOne c refl refl) starts))
+            (with-start-none w.start slots (same-start w.start) there empty (happens-on w.plan.slaves v _ r.same_plan (LosesOne c refl refl) starts))
       ]
 
   no-answer : (bytes : List ℕ) (c : OpenCycle) (k : ℕ) (p : Payload) → IsAnswer w.master c bytes k p → ⊥
@@ -253,7 +303,7 @@ module _ (flags : List Bool) (w : WorldState) (r : Rising flags w) (low : is_up 
       let same : w2.master ≡ w.master = (p.master.foreign (no-answer p.flight.bytes)).1 in
       let gone : w2 ≡ record w { slots = slots }
       = p.is ∙ (ap (λ (m : MasterState). record w { master = m; slots = set w.slots k None }) same ∙ ap (λ (n : ℕ). record w { slots = set w.slots n None }) one.place) in
-      subst (Rising flags) (sym gone) (with-none flags w r slots (omega (arith, length-set w.slots 0 None, r.some_slots)) (emptied w.slots holds.others) (happens-starts ends v _ (Strays c f.0 refl f.1 refl) starts))
+      subst (Rising flags) (sym gone) (with-none flags w r slots (omega (arith, length-set w.slots 0 None, r.some_slots)) (emptied w.slots holds.others) (happens-on w.plan.slaves v _ r.same_plan (Strays c f.0 refl f.1 refl) starts))
 
   return-all : (k : ℕ) → may_return (length w.slaves) (option_map flight_progress (flight_at w k)) ≡ true → (flight : Flight) → flight_at w k ≡ Some flight → flight.passed ≡ length w.slaves
   return-all k e flight q = eqb-true flight.passed (length w.slaves) (ap (λ o. may_return (length w.slaves) (option_map flight_progress o)) (sym q) ∙ e)
@@ -277,7 +327,7 @@ module _ (flags : List Bool) (w : WorldState) (r : Rising flags w) (low : is_up 
       let lost : StartState = record w.start { phase = Failed Lost } in
       let is : w2 ≡ record w { start = lost } = up ∙ ap (λ (x : StartState). record w { start = x }) (ap (λ (x : Phase). given_up_by w.start x) number.1) in
       subst (Rising flags) (sym is)
-      (restarted flags w r flags lost w.master w.slots r.slot refl (happens-starts (ends_of w.plan.slaves) (starting_of w flags r.slot) _ (ClosesOne number.0 number.1 refl) r.starts) r.slots r.some_slots r.master_plan r.no_cycle
+      (restarted flags w r flags lost w.master w.slots r.slot (record { plan = refl; feeds = refl }) (happens-on w.plan.slaves (starting_of w flags r.slot) _ r.same_plan (ClosesOne number.0 number.1 refl) r.starts) r.slots r.some_slots r.master_plan r.no_cycle
       (not-so lost refl))
 
   -- ---- the next frame is sent
@@ -293,22 +343,22 @@ module _ (flags : List Bool) (w : WorldState) (r : Rising flags w) (low : is_up 
   pub record Goes (s : StartState) : Type 0 where
     pub idle : s.phase ≡ Idle
     pub next : s.next ≡ w.start.next
-    pub plan : s.plan ≡ w.start.plan
+    pub plan : HasSamePlan w.start s
     pub starts : Starts (ends_of w.plan.slaves) (record { start = s; slaves = w.slaves; troubles = flags; slot = None })
 
-  anew : (f : StartError) → AreStartable w.plan.slaves → Goes (begun w.start.plan w.start.next)
+  anew : (f : StartError) → AreStartable w.plan.slaves → Goes (begun w.start.plan w.start.feeds w.start.next)
   unfolding begun
   anew f planned = record {
     idle = refl;
     next = refl;
-    plan = refl;
+    plan = record { plan = refl; feeds = refl };
     starts = subst (λ (ps : List SlavePlan). Starts (ends_of ps) (with_begun (starting_of w flags r.slot))) r.same_plan
-        (begun-starts (starting_of w flags r.slot) r.starts.slaves (subst AreStartable (sym r.same_plan) planned));
+        (begun-starts (starting_of w flags r.slot) r.starts.slaves r.starts.feeds (subst AreStartable (sym r.same_plan) planned));
   }
 
   goes-on : (p : Phase) → w.start.phase ≡ p → awaits w.start ≡ false → AreStartable w.plan.slaves → ((k : ℕ) → get_or w.slots k None ≡ None)
       → Goes (resumed w.start p)
-  goes-on Idle e off planned none = record { idle = e; next = refl; plan = refl; starts = subst (λ (o : Option Carried). Starts (ends_of w.plan.slaves) (starting_of w flags o)) (no-slot r.slot r.slots none) r.starts }
+  goes-on Idle e off planned none = record { idle = e; next = refl; plan = same-start w.start; starts = subst (λ (o : Option Carried). Starts (ends_of w.plan.slaves) (starting_of w flags o)) (no-slot r.slot r.slots none) r.starts }
   goes-on (Sent n) e off planned none = absurd (both_ways _ off (ap (λ (q : Phase). phase_awaits q) e))
   goes-on Ready e off planned none = absurd (both_ways _ low (ap (λ (q : Phase). phase_ready q) e))
   goes-on (Failed f) e off planned none = anew f planned
@@ -334,8 +384,8 @@ module _ (flags : List Bool) (w : WorldState) (r : Rising flags w) (low : is_up 
         passed = refl;
         carried = record { payload = load; spelled = h.spelled; datagrams = told };
       } in
-      subst (Rising (flags_sent s flags)) (sym is) (restarted flags w r (flags_sent s flags) (sending s) w.master (filled (flight ∷ []) w.slots) (Some c) g.plan
-      (happens-starts ends v _ (SendsNext g.idle (second-good load.datagrams s.next (datagram_of (action_of s) s.next) h.spelled.each told) refl) g.starts)
+      subst (Rising (flags_sent s flags)) (sym is) (restarted flags w r (flags_sent s flags) (sending s) w.master (filled (flight ∷ []) w.slots) (Some c) (record { plan = g.plan.plan; feeds = g.plan.feeds })
+      (happens-on w.plan.slaves v _ (g.plan.plan ∙ r.same_plan) (SendsNext g.idle (second-good load.datagrams s.next (datagram_of (action_of s) s.next) h.spelled.each told) refl) g.starts)
       held (omega (arith, filled-length (flight ∷ []) w.slots, r.some_slots)) r.master_plan r.no_cycle (not-so (sending s) refl))
 
   start-rises : (w2 : WorldState) → AreStartable w.plan.slaves → can_happen w StartNext ≡ true → Sends w w2 → Rising (flags_sent (resumed w.start w.start.phase) flags) w2
@@ -361,7 +411,7 @@ module _ (flags : List Bool) (w : WorldState) (r : Rising flags w) (low : is_up 
   pub event-rises : (e : Event) (w2 : WorldState) → AreStartable w.plan.slaves → can_happen w e ≡ true → Happens w e w2 → Rising (flags_after w e flags) w2
   event-rises StartNext w2 planned can h = start-rises w2 planned can h
   event-rises (Set v x) w2 planned can h = subst (Rising flags) (sym h)
-      (restarted flags w r flags w.start (variable_set w.master v x) w.slots r.slot refl r.starts r.slots r.some_slots r.master_plan r.no_cycle r.master_ready)
+      (restarted flags w r flags w.start (variable_set w.master v x) w.slots r.slot (same-start w.start) r.starts r.slots r.some_slots r.master_plan r.no_cycle r.master_ready)
   event-rises Begin w2 planned can h = absurd (no-begin can)
   event-rises (Pass k) w2 planned can h = pass-rises flags w r k w2 can h
   event-rises (Lose k) w2 planned can h = subst (Rising flags) (sym h) (lose-rises flags w r k can)

@@ -1,5 +1,6 @@
 -- From a new world to the plain machine.
-use Rattle.ec_world.proofs.Words.{ℕ, zero, suc, ◌<◌, ◌≤◌, ◌≡◌, Bool, false, Option, None, refl, sym, ◌∙◌, ap, subst, arith, List, [], ◌∷◌, length, get_or, replicate, both_ways, length-replicate, Identity, plain_kind, device_identity, SlavePlan, PlanState, plan_of, plan_sound, plan_usable, are-plans, IsUsable, begun, bringup_switched_on as switched_on, IsOfKind, power_on_is, AreSlaves, kind_at, Starts, AreStartable, ends_of, begun-starts, Event, WorldState, Flight, no_slave, is_up, IsRun, AreWhole, plain_of, slot_count, new_world, HasStarted, RunOutcome, NotYet, Started, WholeLaw, CompiledLaw, starting_of, Rising, on_whole, AreGenuine, none_some, none_free}
+use Rattle.ec_world.proofs.Words.{ℕ, zero, suc, ◌<◌, ◌≤◌, ◌≡◌, Bool, false, Option, None, refl, sym, ◌∙◌, ap, subst, arith, List, [], ◌∷◌, length, get_or, replicate, both_ways, length-replicate, Identity, plain_kind, device_identity, SlavePlan, PlanState, plan_of, plan_sound, plan_usable, are-plans, IsUsable, begun, bringup_switched_on as switched_on, IsOfKind, power_on_is, AreSlaves, kind_at, Starts, AreStartable, ends_of, begun-starts, feeds_of, parts_can_be_fed, Event, WorldState, Flight, no_slave, is_up, IsRun, IsFit, plain_of, slot_count, new_world, HasStarted, RunOutcome, NotYet, Started, WholeLaw, CompiledLaw, starting_of, Rising, AreGenuine, none_some, none_free}
+use Rattle.ec_world.proofs.StartUp.Rising.{on_fit}
 use Rattle.ec_world.proofs.Runs.OneOutcomeLaw.{HoldsFrames}
 use Rattle.ec_world.proofs.Runs.PlanLaw.{run_keeps}
 use Rattle.ec_world.proofs.StartUp.Lasting.{run_genuine}
@@ -20,10 +21,10 @@ on-slave (p ∷ ps) [] k e l = absurd (omega (arith, e))
 on-slave (p ∷ ps) (i ∷ is) zero e l = power_on_is p.kind i
 on-slave (p ∷ ps) (i ∷ is) (suc k) e l = on-slave ps is k (omega (arith, e)) (omega (arith, l))
 
-on-fit : (ps : List SlavePlan) (is : List Identity) (k : ℕ) → AreWhole (get_or (switched_on ps is) k no_slave)
-on-fit [] is k = on_whole plain_kind (device_identity plain_kind.device 0)
-on-fit (p ∷ ps) [] k = on_whole plain_kind (device_identity plain_kind.device 0)
-on-fit (p ∷ ps) (i ∷ is) zero = on_whole p.kind i
+on-fit : (ps : List SlavePlan) (is : List Identity) (k : ℕ) → IsFit (get_or (switched_on ps is) k no_slave)
+on-fit [] is k = on_fit plain_kind (device_identity plain_kind.device 0)
+on-fit (p ∷ ps) [] k = on_fit plain_kind (device_identity plain_kind.device 0)
+on-fit (p ∷ ps) (i ∷ is) zero = on_fit p.kind i
 on-fit (p ∷ ps) (i ∷ is) (suc k) = on-fit ps is k
 
 abbrev no-flags : PlanState → List Bool
@@ -38,9 +39,9 @@ new-slaves plan is few e = record {
   each = λ i l. on-slave plan.slaves is i e l;
 }
 
-new-starts : (plan : PlanState) (is : List Identity) → AreStartable plan.slaves → AreSlaves (starting_of (new_world plan is) (no-flags plan) None) → Starts (ends_of plan.slaves) (starting_of (new_world plan is) (no-flags plan) None)
+new-starts : (plan : PlanState) (is : List Identity) → IsUsable plan → AreStartable plan.slaves → AreSlaves (starting_of (new_world plan is) (no-flags plan) None) → Starts (ends_of plan.slaves) (starting_of (new_world plan is) (no-flags plan) None)
 unfolding begun
-new-starts plan is planned h = begun-starts (starting_of (new_world plan is) (no-flags plan) None) h planned
+new-starts plan is sound planned h = begun-starts (starting_of (new_world plan is) (no-flags plan) None) h (parts_can_be_fed plan sound planned.each) planned
 
 pub new-low : (plan : PlanState) (is : List Identity) → is_up (new_world plan is).start ≡ false
 unfolding begun
@@ -50,11 +51,16 @@ new-plan : (plan : PlanState) (is : List Identity) → (new_world plan is).start
 unfolding begun
 new-plan plan is = refl
 
+new-feeds : (plan : PlanState) (is : List Identity) → (new_world plan is).start.feeds ≡ feeds_of plan
+unfolding begun
+new-feeds plan is = refl
+
 pub new-rises : (plan : PlanState) (is : List Identity) → IsUsable plan → AreStartable plan.slaves → length is ≡ length plan.slaves → Rising (no-flags plan) (new_world plan is)
 new-rises plan is sound planned e = record {
   same_plan = new-plan plan is;
+  same_feeds = new-feeds plan is;
   slot = None;
-  starts = new-starts plan is planned (new-slaves plan is sound.few_slaves e);
+  starts = new-starts plan is sound planned (new-slaves plan is sound.few_slaves e);
   slots = none_free slot_count;
   some_slots = omega (arith, length-replicate {A = Option Flight} slot_count None);
   fit = on-fit plan.slaves is;
@@ -102,7 +108,7 @@ whole plan is sound planned e es w made h = outcome_of (new_world plan is) es w 
 
 pub compiled : CompiledLaw
 compiled t is sound free e es w made h =
-    whole (plan_of t) is (plan_usable t sound free) (record { each = (are-plans t sound free).planned }) (omega (arith, e, (plan_sound t sound free).as_many)) es w made h
+    whole (plan_of t) is (plan_usable t sound free) (let a = (are-plans t sound free).plans in record { each = a.planned; alike = a.alike }) (omega (arith, e, (plan_sound t sound free).as_many)) es w made h
 
 -- ---- a run at whose end the start-up isn't Ready: its slaves are devices, and the start-up's invariant holds
 

@@ -102,14 +102,11 @@ fn write_line(
 }
 
 /// Adds the line of each input variable.
-fn write_inputs(
-    text: &mut String,
-    world: &World<'_>,
-    rows: &[VariableRow],
-) -> Result<(), AllocError> {
-    for (place, row) in rows.iter().enumerate() {
+fn write_inputs(text: &mut String, world: &World<'_>, table: &Table) -> Result<(), AllocError> {
+    for (place, row) in table.variables().iter().enumerate() {
         if row.direction == Direction::In && place < world.variables() {
-            writeln!(text, "{} {}", row.name.as_str(), world.input(place))?;
+            let number = table.number(place, world.input(place));
+            writeln!(text, "{} {number}", row.name.as_str())?;
         }
     }
     Ok(())
@@ -131,5 +128,5 @@ pub fn write_cycles(
         run_cycle(world, plan.parts().len());
         write_line(alloc, text, world, table, plan)?;
     }
-    write_inputs(text, world, table.variables())
+    write_inputs(text, world, table)
 }

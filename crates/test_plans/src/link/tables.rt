@@ -11,10 +11,10 @@ pub const TWO_UNITS: &str = test_data::SHORT_TWO_UNITS;
 /// The image of both: outputs and inputs one after another, and the bits of slaves that are linked with them.
 pub const IMAGE: &str = "\
 out 16 in 20
-Variable { direction: Out, from: 0, bits: 4 }
-Variable { direction: Out, from: 4, bits: 12 }
-Variable { direction: In, from: 0, bits: 4 }
-Variable { direction: In, from: 4, bits: 16 }
+Variable { direction: Out, from: 0, bits: 4, signed: false }
+Variable { direction: Out, from: 4, bits: 12, signed: false }
+Variable { direction: In, from: 0, bits: 4, signed: false }
+Variable { direction: In, from: 4, bits: 16, signed: false }
 Link { image: 0, slave: 0, object_bit: 0, count: 4 }
 Link { image: 4, slave: 2, object_bit: 0, count: 12 }
 Link { image: 0, slave: 1, object_bit: 0, count: 4 }

@@ -12,4 +12,4 @@ pub returns-clause-not_given_up : goal.returns-clause-not_given_up
 returns-clause-not_given_up c = not-given-up c.args.startup.now c.make_turns.new.startup c.args.ring.now c.make_turns.new.ring c.make_turns.ensures
 
 pub returns-clause-up : goal.returns-clause-up
-returns-clause-up c = λ ps from. up ps from c.args.startup.now c.make_turns.new.startup c.args.ring.now c.make_turns.new.ring c.make_turns.ensures
+returns-clause-up c = λ ps fs from. up ps fs from c.args.startup.now c.make_turns.new.startup c.args.ring.now c.make_turns.new.ring c.make_turns.ensures

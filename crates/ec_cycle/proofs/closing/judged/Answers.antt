@@ -15,7 +15,7 @@ pub loop-k-preserved : goal.loop-k-preserved
 loop-k-preserved c =
     let p = c.args.plan.now in
     let size = c.loop-k.invariant.size in
-    let parts = ap length c.parts-k-end.ensures in
+    let parts = ap length c.parts-k-end.ensures.value in
     let there : c.loop-k.k < length c.args.kept.now = omega arith in
     let small = c.judge.ensures.small in
     record {
@@ -26,6 +26,6 @@ loop-k-preserved c =
 
 pub returns-clause-judged : goal.returns-clause-judged
 returns-clause-judged c =
-    let parts = ap length c.parts-k-end.ensures in
+    let parts = ap length c.parts-k-end.ensures.value in
     let all : length c.args.kept.now ≤ c.loop-k.k = omega arith in
     λ u l. c.loop-k.invariant.so_far u l ∙ judged_all c.args.plan.now c.args.kept.now c.loop-k.k u all

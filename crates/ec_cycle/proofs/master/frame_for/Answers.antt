@@ -8,24 +8,24 @@ use Rattle.ec_cycle.proofs.master.frame_for.Goals as goal
 
 pub slice_bounds-room-end : goal.slice_bounds-room-end
 slice_bounds-room-end c =
-    let same : (get_or c.parts.result.now c.args.part no_part).bytes ≡ (part_at c.args.plan.now.parts c.args.part).bytes = ap (λ ps. (get_or ps c.args.part no_part).bytes) c.parts.ensures in
+    let same : (get_or c.parts.result.now c.args.part no_part).bytes ≡ (part_at c.args.plan.now.parts c.args.part).bytes = ap (λ ps. (get_or ps c.args.part no_part).bytes) c.parts.ensures.value in
     let few = few_of c.args.plan.now c.args.part c.requires.usable in
     let size : length c.blank-room.result ≡ 1422 = ap length c.blank-room.ensures ∙ length-replicate {A = ℕ} 1422 0 in
     omega arith
 
 pub slice_bounds-sent-end : goal.slice_bounds-sent-end
 slice_bounds-sent-end c =
-    let same : (get_or c.parts.result.now c.args.part no_part).bytes ≡ (part_at c.args.plan.now.parts c.args.part).bytes = ap (λ ps. (get_or ps c.args.part no_part).bytes) c.parts.ensures in
+    let same : (get_or c.parts.result.now c.args.part no_part).bytes ≡ (part_at c.args.plan.now.parts c.args.part).bytes = ap (λ ps. (get_or ps c.args.part no_part).bytes) c.parts.ensures.value in
     let few = few_of c.args.plan.now c.args.part c.requires.usable in
     sym (ap length (ap (take (get_or c.parts.result.now c.args.part no_part).bytes) c.blank-room.ensures ∙ take_zeros (get_or c.parts.result.now c.args.part no_part).bytes 1422 (omega arith)) ∙ length-replicate (get_or c.parts.result.now c.args.part no_part).bytes 0)
 
 pub fill-requires-clause-blank : goal.fill-requires-clause-blank
 fill-requires-clause-blank c =
-    let same : (get_or c.parts.result.now c.args.part no_part).bytes ≡ (part_at c.args.plan.now.parts c.args.part).bytes = ap (λ ps. (get_or ps c.args.part no_part).bytes) c.parts.ensures in
+    let same : (get_or c.parts.result.now c.args.part no_part).bytes ≡ (part_at c.args.plan.now.parts c.args.part).bytes = ap (λ ps. (get_or ps c.args.part no_part).bytes) c.parts.ensures.value in
     let few = few_of c.args.plan.now c.args.part c.requires.usable in
     ap (take (get_or c.parts.result.now c.args.part no_part).bytes) c.blank-room.ensures ∙ (take_zeros (get_or c.parts.result.now c.args.part no_part).bytes 1422 (omega arith) ∙ ap zeros same)
 
 pub build-requires-clause-size : goal.build-requires-clause-size
 build-requires-clause-size c =
-    let same : (get_or c.parts.result.now c.args.part no_part).bytes ≡ (part_at c.args.plan.now.parts c.args.part).bytes = ap (λ ps. (get_or ps c.args.part no_part).bytes) c.parts.ensures in
+    let same : (get_or c.parts.result.now c.args.part no_part).bytes ≡ (part_at c.args.plan.now.parts c.args.part).bytes = ap (λ ps. (get_or ps c.args.part no_part).bytes) c.parts.ensures.value in
     ap length c.fill.ensures ∙ (length-process_bytes c.args.plan.now c.args.part c.args.image.now ∙ sym same)

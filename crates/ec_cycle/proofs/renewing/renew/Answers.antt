@@ -14,7 +14,7 @@ renumber_process-requires c =
     let k = c.args.part in
     let n = c.requires.made.number in
     let was = c.requires.made.image in
-    let same : part_at p.parts k ≡ get_or c.parts.result.now k no_part = sym (ap (λ ps. get_or ps k no_part) c.parts.ensures) in
+    let same : part_at p.parts k ≡ get_or c.parts.result.now k no_part = sym (ap (λ ps. get_or ps k no_part) c.parts.ensures.value) in
     let x = cut p k n was c.args.frame.now c.split_at_mut-front.result.0.now c.split_at_mut-front.result.1.now c.requires.made.spelled c.split_at_mut-front.ensures.front c.split_at_mut-front.ensures.back in
     (n, process_bytes p k was, length-process_bytes p k was ∙ ap (λ (q : PartPlan). q.bytes) same, x.back_is ∙ ap (λ (q : PartPlan). process_spelled q n (process_bytes p k was)) same)
 
@@ -24,7 +24,7 @@ refill-requires-clause-made c =
     let k = c.args.part in
     let n = c.requires.made.number in
     let was = c.requires.made.image in
-    let same : part_at p.parts k ≡ get_or c.parts.result.now k no_part = sym (ap (λ ps. get_or ps k no_part) c.parts.ensures) in
+    let same : part_at p.parts k ≡ get_or c.parts.result.now k no_part = sym (ap (λ ps. get_or ps k no_part) c.parts.ensures.value) in
     let x = cut p k n was c.args.frame.now c.split_at_mut-front.result.0.now c.split_at_mut-front.result.1.now c.requires.made.spelled c.split_at_mut-front.ensures.front c.split_at_mut-front.ensures.back in
     let size = length-process_bytes p k was in (
       c.args.number,
@@ -39,7 +39,7 @@ returns c =
     let k = c.args.part in
     let n = c.requires.made.number in
     let was = c.requires.made.image in
-    let same : part_at p.parts k ≡ get_or c.parts.result.now k no_part = sym (ap (λ ps. get_or ps k no_part) c.parts.ensures) in
+    let same : part_at p.parts k ≡ get_or c.parts.result.now k no_part = sym (ap (λ ps. get_or ps k no_part) c.parts.ensures.value) in
     let x = cut p k n was c.args.frame.now c.split_at_mut-front.result.0.now c.split_at_mut-front.result.1.now c.requires.made.spelled c.split_at_mut-front.ensures.front c.split_at_mut-front.ensures.back in
     let size = length-process_bytes p k was in
     let numbered = c.renumber_process.ensures n (process_bytes p k was) (size ∙ ap (λ (q : PartPlan). q.bytes) same) (x.back_is ∙ ap (λ (q : PartPlan). process_spelled q n (process_bytes p k was)) same)

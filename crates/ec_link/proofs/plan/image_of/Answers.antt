@@ -18,10 +18,10 @@ loop-row-preserved c =
     let low : c.toward.result + 63 < 2 ^ 64 = omega arith in
     record {
       placed = each_more (placed ws) ws c.loop-row.placed c.push.new.self (image ws) i w c.loop-row-test.true c.row-item.is
-          (c.in_ok-push.ensures.ok ∙ ap (λ (n : ℕ). c.loop-row.placed ++ record { direction = w.direction; from = n; bits = w.bits } ∷ []) from) c.loop-row.invariant.placed;
+          (c.in_ok-push.ensures.ok ∙ ap (λ (n : ℕ). c.loop-row.placed ++ record { direction = w.direction; from = n; bits = w.bits; signed = w.signed } ∷ []) from) c.loop-row.invariant.placed;
       outs = ap (λ (n : ℕ). n + c.bits_toward-outs.result) c.loop-row.invariant.outs ∙ ap (λ (n : ℕ). image_bits Out (take i ws) + n) c.bits_toward-outs.ensures.value ∙ sym (image_bits_more Out ws i w c.loop-row-test.true c.row-item.is);
       ins = ap (λ (n : ℕ). n + c.bits_toward-ins.result) c.loop-row.invariant.ins ∙ ap (λ (n : ℕ). image_bits In (take i ws) + n) c.bits_toward-ins.ensures.value ∙ sym (image_bits_more In ws i w c.loop-row-test.true c.row-item.is);
       few_outs = omega arith;
       few_ins = omega arith;
-      low = All-same IsPlacedLow _ _ c.in_ok-push.ensures.ok (All-push IsPlacedLow c.loop-row.placed (record { direction = w.direction; from = c.toward.result; bits = w.bits }) c.loop-row.invariant.low low);
+      low = All-same IsPlacedLow _ _ c.in_ok-push.ensures.ok (All-push IsPlacedLow c.loop-row.placed (record { direction = w.direction; from = c.toward.result; bits = w.bits; signed = w.signed }) c.loop-row.invariant.low low);
     }

@@ -9,6 +9,7 @@ use Rattle.ec_link.specs.declared.settings.SlavePlan.{SlavePlan}
 use Rattle.ec_link.specs.Sizes.{each_from}
 use Rattle.ec_link.specs.Plan.{settings_at}
 use Rattle.ec_link.proofs.EachFrom.{each_more}
+use Rattle.ec_link.proofs.SlavesMade.{bits_at}
 use Rattle.ec_link.proofs.plan.slaves_of.Goals as goal
 
 pub loop-slave-preserved : goal.loop-slave-preserved
@@ -33,5 +34,6 @@ settings_at-requires c =
       seated = c.requires.seated;
       outs = outs_at c.args.table.now c.args.sizes.now c.loop-slave.slave _ c.requires.sizes lt;
       ins = ins_at c.args.table.now c.args.sizes.now c.loop-slave.slave _ c.requires.sizes lt;
+      bits = bits_at c.args.table.now c.args.sizes.now c.loop-slave.slave _ c.requires.sizes lt;
       few = All-get_or IsSize c.args.sizes.now c.loop-slave.slave _ (subst (λ (n : ℕ). c.loop-slave.slave < n) (sym (sizes_count c.args.table.now c.args.sizes.now c.requires.sizes)) lt) c.requires.few;
     }

@@ -1,4 +1,5 @@
 use Rattle.ec_slave.proofs.Memory.RegisterLaws.{registers_written, registers_read, managers_aside, registers_open}
+use Rattle.ec_slave.proofs.Memory.RegisterResets.{managers_cleared, sii_left}
 use Rattle.ec_slave.proofs.laws.registers_are_written.Goals as goal
 
 pub returns-clause-written : goal.returns-clause-written
@@ -12,3 +13,9 @@ returns-clause-aside c = managers_aside
 
 pub returns-clause-open : goal.returns-clause-open
 returns-clause-open c = registers_open
+
+pub returns-clause-cleared : goal.returns-clause-cleared
+returns-clause-cleared c = managers_cleared
+
+pub returns-clause-left : goal.returns-clause-left
+returns-clause-left c = sii_left

@@ -7,4 +7,4 @@ pub returns-else-from-bytes-gt-SYNC_MANAGERS : goal.returns-else-from-bytes-gt-S
 returns-else-from-bytes-gt-SYNC_MANAGERS c =
     let w : Window = record { from = c.args.from; bytes = c.args.bytes.now } in
     let low : w.from + length w.bytes ≤ 2048 = omega arith in
-    sym (managers-write _ _ c.args.reads w 0 low)
+    sym (managers-write _ _ _ c.args.reads w 0 low)

@@ -6,4 +6,4 @@ use Rattle.ec_table.proofs.slaves.slaves_of.Given as goal
 
 abbrev pub invariant-loop-element : goal.invariant-loop-element
 invariant-loop-element l =
-    rows_after (slave_element l.version l.types) l.found l.element (items_view (drop l.element l.elements)) ≡ rows_after (slave_element l.version l.types) [] 0 (items_view l.elements)
+    rows_after (slave_element l.format l.types) l.found l.element (items_view (drop l.element l.elements)) ≡ rows_after (slave_element l.format l.types) [] 0 (items_view l.elements)

@@ -6,4 +6,4 @@ use Rattle.ec_table.proofs.types.types_of.Given as goal
 
 abbrev pub invariant-loop-element : goal.invariant-loop-element
 invariant-loop-element l =
-    rows_after (type_element l.version) l.found l.element (items_view (drop l.element l.elements)) ≡ rows_after (type_element l.version) [] 0 (items_view l.elements)
+    rows_after (type_element l.format) l.found l.element (items_view (drop l.element l.elements)) ≡ rows_after (type_element l.format) [] 0 (items_view l.elements)

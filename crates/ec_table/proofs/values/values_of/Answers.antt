@@ -14,12 +14,12 @@ use Rattle.ec_table.proofs.values.values_of.Goals as goal
 pub loop-key-preserved : goal.loop-key-preserved
 loop-key-preserved c =
     let (keys, long, finds, none) = c.loop-key.invariant in
-    let ks = names_of c.args.shape c.args.version in
+    let ks = names_of c.args.shape c.args.format in
     let e : Entry = (c.in-Some.key.now, c.in-Some.value.now) in
     let iter : c.loop-key.key-iterator ≡ e ∷ c.next.new.self = grind (arith, common_steps) in
     let at : position (bytes_eq (string_bytes e.0)) ks ≡ Some c.in_ok-place.place = sym (rw c.as_str.ensures.value at c.in_ok-place.ensures) in
-    let good : is_key c.args.shape c.args.version (string_bytes e.0) ≡ true = sym (has_key c.args.shape c.args.version (string_bytes e.0)) ∙ ap is_some at in
-    let inside = place_inside c.args.shape c.args.version (string_bytes e.0) c.in_ok-place.place at in
+    let good : is_key c.args.shape c.args.format (string_bytes e.0) ≡ true = sym (has_key c.args.shape c.args.format (string_bytes e.0)) ∙ ap is_some at in
+    let inside = place_inside c.args.shape c.args.format (string_bytes e.0) c.in_ok-place.place at in
     let put : viewed c.first.result ≡ option_or (viewed (get_or c.loop-key.found c.in_ok-place.place None)) (Some (view e.1)) = rw (get_or_default c.loop-key.found c.in_ok-place.place None c.index-found-place.result (omega (arith, inside.1, long))) c.first.ensures in (
       sym (rw (iter, good) refl) ∙ keys,
       length-set c.loop-key.found c.in_ok-place.place c.first.result ∙ long,
@@ -31,16 +31,16 @@ pub returns-then-has_needed-clause-keys : goal.returns-then-has_needed-clause-ke
 returns-then-has_needed-clause-keys c =
     let (keys, long, finds, _) = c.loop-key.invariant in
     let over : c.loop-key.key-iterator ≡ [] = grind (arith, common_steps) in
-    sym c.if-has_needed.true ∙ c.has_needed.ensures ∙ keys_at_end c.args.shape c.args.version c.loop-key.found (members_view c.args.members.now.entries) (rw over at keys) long (rw over at finds) c.keys.result.now c.keys.ensures
+    sym c.if-has_needed.true ∙ c.has_needed.ensures ∙ keys_at_end c.args.shape c.args.format c.loop-key.found (members_view c.args.members.now.entries) (rw over at keys) long (rw over at finds) c.keys.result.now c.keys.ensures
 
 pub returns-then-has_needed-clause-values : goal.returns-then-has_needed-clause-values
 returns-then-has_needed-clause-values c =
     let (keys, long, finds, none) = c.loop-key.invariant in
     let over : c.loop-key.key-iterator ≡ [] = grind (arith, common_steps) in
-    values_at_end c.args.shape c.args.version c.loop-key.found (members_view c.args.members.now.entries) (rw over at keys) long (rw over at finds) none
+    values_at_end c.args.shape c.args.format c.loop-key.found (members_view c.args.members.now.entries) (rw over at keys) long (rw over at finds) none
 
 pub returns-else-has_needed-clause-keys : goal.returns-else-has_needed-clause-keys
 returns-else-has_needed-clause-keys c =
     let (keys, long, finds, _) = c.loop-key.invariant in
     let over : c.loop-key.key-iterator ≡ [] = grind (arith, common_steps) in
-    sym c.if-has_needed.false ∙ c.has_needed.ensures ∙ keys_at_end c.args.shape c.args.version c.loop-key.found (members_view c.args.members.now.entries) (rw over at keys) long (rw over at finds) c.keys.result.now c.keys.ensures
+    sym c.if-has_needed.false ∙ c.has_needed.ensures ∙ keys_at_end c.args.shape c.args.format c.loop-key.found (members_view c.args.members.now.entries) (rw over at keys) long (rw over at finds) c.keys.result.now c.keys.ensures

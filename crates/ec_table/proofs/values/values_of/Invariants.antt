@@ -8,7 +8,7 @@ use Rattle.ec_table.proofs.values.values_of.Given as goal
 -- the keys so far are known, what was found of each is what it has, and nothing was found of another
 abbrev pub invariant-loop-key : goal.invariant-loop-key
 invariant-loop-key l =
-    (each_key (is_key l.fn.shape l.fn.version) (members_view l.key-iterator) ≡ each_key (is_key l.fn.shape l.fn.version) (members_view l.members.entries))
-    × (length l.found ≡ 10)
-    × Finds l.found (names_of l.fn.shape l.fn.version) (members_view l.key-iterator) (members_view l.members.entries)
-    × ((i : ℕ) → length (names_of l.fn.shape l.fn.version) ≤ i → get_or l.found i None ≡ None)
+    (each_key (is_key l.fn.shape l.fn.format) (members_view l.key-iterator) ≡ each_key (is_key l.fn.shape l.fn.format) (members_view l.members.entries))
+    × (length l.found ≡ 14)
+    × Finds l.found (names_of l.fn.shape l.fn.format) (members_view l.key-iterator) (members_view l.members.entries)
+    × ((i : ℕ) → length (names_of l.fn.shape l.fn.format) ≤ i → get_or l.found i None ≡ None)

@@ -4,4 +4,4 @@ use Rattle.ec_table.proofs.variables.variables_of.Goals as goal
 
 pub returns-in_err-row : goal.returns-in_err-row
 returns-in_err-row c =
-    row_told (variable_element c.args.version) c.loop-value.found _ _ c.in-Some.value _ c.len.result c.in_err-row.field-0.0 c.from_residual.result c.in-Some.ensures.steps.0 c.loop-value.invariant.0 c.len.ensures c.in_err-row.ensures.value c.from_residual.ensures
+    row_told (variable_element c.args.format) c.loop-value.found _ _ c.in-Some.value _ c.len.result c.in_err-row.field-0.0 c.from_residual.result c.in-Some.ensures.steps.0 c.loop-value.invariant.0 c.len.ensures c.in_err-row.ensures.value c.from_residual.ensures

@@ -7,5 +7,5 @@ use Rattle.ec_table.proofs.variables.variables_of.Given as goal
 
 abbrev pub invariant-loop-value : goal.invariant-loop-value
 invariant-loop-value l =
-    (rows_after (variable_element l.version) l.found (length l.found) (items_view (into_iter_items l.value-iterator)) ≡ rows_after (variable_element l.version) [] 0 (items_view l.fn.elements.items))
+    (rows_after (variable_element l.format) l.found (length l.found) (items_view (into_iter_items l.value-iterator)) ≡ rows_after (variable_element l.format) [] 0 (items_view l.fn.elements.items))
     × (into_iter_len l.value-iterator ≡ length (into_iter_items l.value-iterator))

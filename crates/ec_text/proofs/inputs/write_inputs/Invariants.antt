@@ -6,4 +6,4 @@ use Rattle.ec_text.proofs.inputs.write_inputs.Given as goal
 -- the lines of those before this place are added
 abbrev pub invariant-loop-index : goal.invariant-loop-index
 invariant-loop-index l =
-    string_bytes l.text ++ lines_from (input_line (value_of_variable l.master)) l.index (drop l.index l.rows) ≡ string_bytes l.initial.text ++ lines_from (input_line (value_of_variable l.master)) 0 l.rows
+    string_bytes l.text ++ lines_from (input_line l.table (value_of_variable l.master)) l.index (drop l.index l.table.variables) ≡ string_bytes l.initial.text ++ lines_from (input_line l.table (value_of_variable l.master)) 0 l.table.variables

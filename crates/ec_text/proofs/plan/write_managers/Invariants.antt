@@ -3,4 +3,4 @@ use Rattle.ec_text.specs.PlanText.{lines_from, manager_line}
 use Rattle.ec_text.proofs.plan.write_managers.Given as goal
 
 abbrev pub invariant-loop-number : goal.invariant-loop-number
-invariant-loop-number l = string_bytes l.text ++ lines_from manager_line l.number (drop l.number l.managers) ≡ string_bytes l.initial.text ++ lines_from manager_line 0 l.managers
+invariant-loop-number l = string_bytes l.text ++ lines_from (manager_line l.kind.hardware) l.number (drop l.number l.managers) ≡ string_bytes l.initial.text ++ lines_from (manager_line l.kind.hardware) 0 l.managers

@@ -48,7 +48,7 @@ keep-requires c =
     let size = answer_size (plan_in c.self.inside.held) n.0 c.in-Some.part p.datagrams (part_answers (plan_in c.self.inside.held) n.0 c.self.inside.frames.items c.self.inside.kept.items c.in-Some.part p.datagrams way c.self.invariant.frame_count a) in
     let few = few_of (plan_in c.self.inside.held) c.in-Some.part c.self.invariant.usable in
     let small : length (bytes_at p.datagrams (input_index (part_at (plan_in c.self.inside.held).parts c.in-Some.part).split)) ≤ 1422 = omega (arith, size, few) in
-    let parts : c.parts.result.now ≡ (plan_in c.self.inside.held).parts = c.parts.ensures ∙ ap (λ (q : PlanState). q.parts) c.plan.ensures in
+    let parts : c.parts.result.now ≡ (plan_in c.self.inside.held).parts = c.parts.ensures.value ∙ ap (λ (q : PlanState). q.parts) c.plan.ensures in
     (p.datagrams, stand, subst (λ (ps : List PartPlan). length (bytes_at p.datagrams (input_index (get_or ps c.in-Some.part no_part).split)) ≤ 1422) (sym parts) small)
 
 pub invariant_of-self : goal.invariant_of-self
@@ -58,7 +58,7 @@ invariant_of-self c =
     let stand = c.first_spans-spans.ensures p h in
     let a = subst (λ (fs : List (List ℕ)). AnswersPart p.datagrams fs c.self.inside.kept.items c.in-Some.part) c.as_slice-frames.ensures.value
     (subst (λ (ks : List (Option ReturnedPart)). AnswersPart p.datagrams c.as_slice-frames.result.now ks c.in-Some.part) c.as_slice.ensures.value (c.in-Some.ensures p h stand)) in
-    let parts : c.parts.result.now ≡ (plan_in c.self.inside.held).parts = c.parts.ensures ∙ ap (λ (q : PlanState). q.parts) c.plan.ensures in
+    let parts : c.parts.result.now ≡ (plan_in c.self.inside.held).parts = c.parts.ensures.value ∙ ap (λ (q : PlanState). q.parts) c.plan.ensures in
     let new : c.keep.new.self ≡ Some (returned_part_of (part_at (plan_in c.self.inside.held).parts c.in-Some.part) p.datagrams) = c.keep.ensures p.datagrams stand ∙ ap (λ (ps : List PartPlan). Some (returned_part_by (get_or ps c.in-Some.part no_part).split p.datagrams)) parts in
     record {
       usable = c.self.invariant.usable;
@@ -79,7 +79,7 @@ returns c =
     let stand = c.first_spans-spans.ensures p h in
     let a = subst (λ (fs : List (List ℕ)). AnswersPart p.datagrams fs c.self.inside.kept.items c.in-Some.part) c.as_slice-frames.ensures.value
     (subst (λ (ks : List (Option ReturnedPart)). AnswersPart p.datagrams c.as_slice-frames.result.now ks c.in-Some.part) c.as_slice.ensures.value (c.in-Some.ensures p h stand)) in
-    let parts : c.parts.result.now ≡ (plan_in c.self.inside.held).parts = c.parts.ensures ∙ ap (λ (q : PlanState). q.parts) c.plan.ensures in
+    let parts : c.parts.result.now ≡ (plan_in c.self.inside.held).parts = c.parts.ensures.value ∙ ap (λ (q : PlanState). q.parts) c.plan.ensures in
     let new : c.keep.new.self ≡ Some (returned_part_of (part_at (plan_in c.self.inside.held).parts c.in-Some.part) p.datagrams) = c.keep.ensures p.datagrams stand ∙ ap (λ (ps : List PartPlan). Some (returned_part_by (get_or ps c.in-Some.part no_part).split p.datagrams)) parts in
     subst (λ (m : MasterState). IsTaken m c.args.payload.now true (state_of (plan_in c.self.inside.held) c.self.inside.is_ready c.self.inside.next c.self.inside.outputs.items c.self.inside.inputs.items c.self.inside.frames.items (set c.self.inside.kept.items c.in-Some.part c.keep.new.self) c.self.inside.number)) c.self.view_is
     (taken_state (plan_in c.self.inside.held) c.self.inside.is_ready c.self.inside.next c.self.inside.outputs.items c.self.inside.inputs.items c.self.inside.frames.items c.self.inside.kept.items c.self.inside.number n.0 c.args.payload.now p c.in-Some.part c.keep.new.self n.1 h

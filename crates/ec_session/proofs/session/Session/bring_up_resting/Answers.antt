@@ -2,14 +2,14 @@ use Rattle.std.proofs.Common.{◌≡◌, ◌∙◌, ap, max, refl, subst, sym}
 use Rattle.std.specs.Arc.{arc_value}
 use Rattle.ec_session.specs.Sessions.{SessionState}
 use Rattle.ec_session.specs.Wired.{Starts}
-use Rattle.ec_session.proofs.Plans.{same_slaves, with_master, with_startup}
+use Rattle.ec_session.proofs.Plans.{same_feeds, same_slaves, with_master, with_startup}
 use Rattle.ec_session.proofs.Wiring.{of_plan, started}
 use Rattle.ec_session.proofs.session.Session.bring_up_resting.Goals as goal
 
 pub make_ready-requires : goal.make_ready-requires
 make_ready-requires g c =
     let i = c.self.inside in
-    of_plan (arc_value i.machine) i.startup c.begin_again.new.self c.bring_up_resting.new.startup i.master c.next_start-number.result c.self.invariant c.begin_again.ensures c.bring_up_resting.ensures.plan
+    (of_plan (arc_value i.machine) i.startup c.begin_again.new.self c.bring_up_resting.new.startup i.master c.next_start-number.result c.self.invariant c.begin_again.ensures c.bring_up_resting.ensures.plan).plan
     ∙ same_slaves (arc_value i.machine) i.startup i.master c.self.invariant
 
 pub invariant_of-self : goal.invariant_of-self
@@ -29,4 +29,4 @@ returns g c =
     let t : SessionState = record s { startup = c.bring_up_resting.new.startup; master = c.make_ready.new.master } in
     subst (λ (x : SessionState). Starts x (g.W.Wire.state c.args.wire.now) t (g.W.Wire.state c.bring_up_resting.new.wire)) c.self.view_is
     (started s (g.W.Wire.state c.args.wire.now) (g.W.Wire.state c.bring_up_resting.new.wire) c.begin_again.new.self c.bring_up_resting.new.startup c.make_ready.new.master c.next_start-number.result i.startup.next i.master.next
-    (same_slaves (arc_value i.machine) i.startup i.master c.self.invariant) c.begin_again.ensures number_is refl refl c.bring_up_resting.ensures.leads c.bring_up_resting.ensures.up c.make_ready.ensures.ready)
+    (same_slaves (arc_value i.machine) i.startup i.master c.self.invariant) (same_feeds (arc_value i.machine) i.startup i.master c.self.invariant) c.begin_again.ensures number_is refl refl c.bring_up_resting.ensures.leads c.bring_up_resting.ensures.up c.make_ready.ensures.ready)

@@ -3,7 +3,7 @@ use Rattle.ec_regs.specs.declared.fmmu.FmmuSettings.{FmmuSettings}
 use Rattle.ec_fmmu.specs.declared.area.MappedArea.{MappedArea}
 use Rattle.ec_fmmu.specs.Areas.{IsMappedBy}
 use Rattle.ec_sync.specs.SyncManager.{SyncManager}
-use Rattle.ec_slave.specs.State.{SlaveState, fmmus, fmmus_of}
+use Rattle.ec_slave.specs.State.{SlaveState, fmmus}
 use Rattle.ec_slave.specs.Usual.{LiesIn}
 use Rattle.ec_slave.proofs.LogicalAccess.SlaveExchanged.{is_mapped}
 use Rattle.ec_slave.proofs.slave.Slave.access_bits.Goals as goal
@@ -14,7 +14,7 @@ exchange_area-requires c =
     let m : MappedArea = c.in-Some.mapped in
     let managers = ap (λ (x : SlaveState). x.managers) c.self.view_is in
     let same : c.deref.result.now ≡ s.managers = c.deref.ensures.value ∙ managers in
-    let decoded : c.self.inside.fmmus ≡ fmmus s = c.self.invariant.decoded ∙ ap (λ (x : SlaveState). fmmus_of x.memory) c.self.view_is in
+    let decoded : c.self.inside.fmmus ≡ fmmus s = c.self.invariant.decoded ∙ ap fmmus c.self.view_is in
     let four : length s.managers ≡ 4 = subst (λ (ms : List SyncManager). length ms ≡ 4) managers c.self.invariant.four in
     record {
       small = c.requires.small;
@@ -26,7 +26,7 @@ exchange_area-requires c =
 
 pub access_unheld-requires : goal.access_unheld-requires
 access_unheld-requires c =
-    let decoded : c.self.inside.fmmus ≡ fmmus c.args.self.now = c.self.invariant.decoded ∙ ap (λ (x : SlaveState). fmmus_of x.memory) c.self.view_is in
+    let decoded : c.self.inside.fmmus ≡ fmmus c.args.self.now = c.self.invariant.decoded ∙ ap fmmus c.self.view_is in
     record { small = c.requires.small; few = c.requires.few; mapped = subst (λ (fs : List FmmuSettings). IsMappedBy fs c.in-Some.mapped) decoded c.in-Some.ensures.mapped; spans = c.in-Some.ensures.spans }
 
 pub is_held-requires : goal.is_held-requires

@@ -1,4 +1,5 @@
 use Rattle.std.proofs.Common.{[], ◌≡◌, ◌≤◌, ◌+◌, ◌++◌, ◌∙◌, List, true, false, length, take, drop, sym, ap, arith}
+use Rattle.ec_device.specs.Types.{SlaveKind}
 use Rattle.ec_sync.specs.SyncManager.{SyncManager}
 use Rattle.ec_slave.specs.State.{SlaveState}
 use Rattle.ec_slave.specs.Physical.{Window, physical_managers}
@@ -40,4 +41,5 @@ returns-then-from-bytes-gt-RAM_START c =
     let front : all ≡ met = take_front met _ c.self.inside.managers.len (omega (arith, ap length own, ok, long)) in
     ap (λ (x : SlaveState). record x { managers = all }) c.self.view_is
     ∙ physically_read c.args.self.now w all
-    (front ∙ (c.access_managers.ensures ∙ ap (physical_managers [] true false w 0) (own ∙ ap (λ (x : SlaveState). x.managers) c.self.view_is)))
+    (front ∙ (c.access_managers.ensures ∙ (ap (λ (k : SlaveKind). physical_managers k.hardware [] true false w 0 c.deref_mut.result.now) (c.kind-kind.ensures ∙ ap (λ (x : SlaveState). x.kind) c.self.view_is)
+    ∙ ap (physical_managers c.args.self.now.kind.hardware [] true false w 0) (own ∙ ap (λ (x : SlaveState). x.managers) c.self.view_is))))

@@ -14,8 +14,8 @@ use Rattle.ec_slave.proofs.slave.Slave.exchange_plain.Goals as goal
 abbrev put_if : Bool → SlaveState → Area → LogicalSpan → List ℕ → List ℕ → List ℕ
 put_if b s a p bytes memory = if b then copied memory (8 * a.out_start) bytes (a.out_at - p.from) a.outs else memory
 
-still_decoded : (b : Bool) (s : SlaveState) (a : Area) (p : LogicalSpan) (bytes : List ℕ) → IsPlain s a → Spans p a → fmmus_of s.memory ≡ fmmus_of (put_if b s a p bytes s.memory)
-still_decoded true s a p bytes h c = decoded-mapped s.managers (fmmus s) p bytes s.memory ∙ ap fmmus_of (memory_put s a p bytes h c)
+still_decoded : (b : Bool) (s : SlaveState) (a : Area) (p : LogicalSpan) (bytes : List ℕ) → IsPlain s a → Spans p a → fmmus s ≡ fmmus_of s.kind.hardware (put_if b s a p bytes s.memory)
+still_decoded true s a p bytes h c = decoded-mapped s.kind.hardware s.managers (fmmus s) p bytes s.memory ∙ ap (fmmus_of s.kind.hardware) (memory_put s a p bytes h c)
 still_decoded false s a p bytes h c = refl
 
 gotten : (b : Bool) (s : SlaveState) (a : Area) (p : LogicalSpan) (bytes : List ℕ) → IsPlain s a
@@ -34,15 +34,17 @@ invariant_of-self c =
     let ok = c.self.inside.memory.ok in
     let long = c.exchange_memory.auto.memory in
     let memory = ap (λ (x : SlaveState). x.memory) c.self.view_is in
-    let front : take c.self.inside.memory.len (new ++ drop (length new) c.self.inside.memory.items) ≡ new
+    let all : List ℕ = take c.self.inside.memory.len (new ++ drop (length new) c.self.inside.memory.items) in
+    let front : all ≡ new
     = take_front new _ c.self.inside.memory.len (omega (arith, ap length own, ok, long)) in
     let put : new ≡ put_if (is_writing c.args.role) s a p bytes s.memory
     = c.exchange_memory.ensures.memory ∙ ap (put_if (is_writing c.args.role) s a p bytes) (own ∙ memory) in
     record {
       room = ap length front ∙ (long ∙ (ap length own ∙ c.self.invariant.room));
       four = c.self.invariant.four;
-      decoded = c.self.invariant.decoded ∙ (ap fmmus_of memory
-          ∙ (still_decoded (is_writing c.args.role) s a p bytes c.requires.plain c.requires.spans ∙ ap fmmus_of (sym (front ∙ put))));
+      decoded = c.self.invariant.decoded ∙ (ap fmmus c.self.view_is
+          ∙ (still_decoded (is_writing c.args.role) s a p bytes c.requires.plain c.requires.spans
+          ∙ (ap (fmmus_of s.kind.hardware) (sym (front ∙ put)) ∙ ap (λ (x : SlaveState). fmmus_of x.kind.hardware all) (sym c.self.view_is))));
       image = c.self.invariant.image;
     }
 

@@ -3,7 +3,7 @@ use Rattle.ec_bits.proofs.BitLaws.{length-overlay}
 use Rattle.ec_regs.specs.declared.fmmu.FmmuSettings.{FmmuSettings}
 use Rattle.ec_sync.specs.SyncManager.{SyncManager}
 use Rattle.ec_fmmu.specs.Applied.{LogicalSpan}
-use Rattle.ec_slave.specs.State.{SlaveState, fmmus_of, with_memory}
+use Rattle.ec_slave.specs.State.{SlaveState, fmmus, with_memory}
 use Rattle.ec_slave.specs.Logical.{logical_managers}
 use Rattle.ec_slave.proofs.LogicalAccess.ExchangedFrom.{take_front}
 use Rattle.ec_slave.proofs.LogicalAccess.SlaveWritten.{slave_read}
@@ -26,7 +26,7 @@ returns-clause-slave c =
     let q : LogicalSpan = record { from = c.args.from; bits = 8 * length c.read_logical-is_read.new.bytes } in
     let place : q ≡ p = ap (λ (n : ℕ). record { from = c.args.from; bits = 8 * n }) same in
     ap (λ (x : SlaveState). with_memory x c.self.inside.memory.items (take c.self.inside.managers.len (new ++ drop (length new) c.self.inside.managers.items))) c.self.view_is
-    ∙ slave_read s _ _ fs p q c.args.bytes.now c.read_logical-is_read.new.bytes memory (c.self.invariant.decoded ∙ ap fmmus_of memory) place
+    ∙ slave_read s _ _ fs p q c.args.bytes.now c.read_logical-is_read.new.bytes memory (c.self.invariant.decoded ∙ ap fmmus c.self.view_is) place
     (front ∙ (c.access_managers.ensures.after ∙ ap (λ (ms : List SyncManager). logical_managers [] true false fs q c.read_logical-is_read.new.bytes ms) (own ∙ managers)))
 
 pub invariant_of-self : goal.invariant_of-self

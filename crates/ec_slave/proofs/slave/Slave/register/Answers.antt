@@ -1,19 +1,15 @@
-use Rattle.std.proofs.Common.{ℕ, ◌-◌, ◌/◌, ◌%◌, ◌∙◌, List, sym, ap, arith, slice_index}
+use Rattle.std.proofs.Common.{ℕ, ◌-◌, ◌∙◌, List, sym, ap, arith, slice_index}
 use Rattle.std.proofs.lemmas.List.{get_or_default}
 use Rattle.std.specs.Int.{to_le_bytes, w16}
-use Rattle.ec_bits.proofs.AnyLaws.{within_parts}
 use Rattle.ec_al.specs.Al.{status_word}
 use Rattle.ec_dl.specs.DataLink.{dl_byte}
 use Rattle.ec_sii.specs.Port.{sii_byte}
-use Rattle.ec_sync.specs.SyncManager.{SyncManager}
-use Rattle.ec_sync.specs.Governing.{manager_byte}
 use Rattle.ec_slave.specs.State.{SlaveState}
-use Rattle.ec_slave.proofs.AppAccess.Bytes.{indexed}
 use Rattle.ec_slave.proofs.Memory.RegisterByte.{register-read, stored-byte, status-byte, code-byte, port-byte, settings-byte, link-byte}
 use Rattle.ec_slave.proofs.slave.Slave.register.Goals as goal
 
 pub returns-then-within : goal.returns-then-within
-returns-then-within c = c.constant.ensures c.args.self.now ∙ sym (register-read c.args.self.now c.args.address c.requires)
+returns-then-within c = c.constant.ensures ∙ sym (register-read c.args.self.now c.args.address c.requires)
 
 pub returns-then-is_in_memory : goal.returns-then-is_in_memory
 returns-then-is_in_memory c =
@@ -70,11 +66,7 @@ returns-then-within-5 c =
     let v = sym c.within-3.ensures ∙ c.if-within-3.false in
     let p = sym c.within-4.ensures ∙ c.if-within-4.false in
     let k = sym c.within-5.ensures ∙ c.if-within-5.true in
-    let n : ℕ = (a - 2048) / 8 in
-    let four = c.self.invariant.four in
-    let own = indexed c.self.inside.managers.items s.managers n c.index-then-within-5.result.now (let e = (within_parts 2048 32 a k).1 in omega (arith, e, four)) c.index-then-within-5.ensures (ap (λ (x : SlaveState). x.managers) c.self.view_is) in
-    c.register.ensures ∙ ap (λ (m : SyncManager). manager_byte m (a % 8)) own
-    ∙ sym (register-read s a c.requires ∙ settings-byte s a h m w v p k)
+    c.manager_register.ensures ∙ sym (register-read s a c.requires ∙ settings-byte s a h m w v p k)
 
 pub returns : goal.returns
 returns c =

@@ -1,12 +1,13 @@
 use Rattle.std.proofs.Common.{◌≡◌, ◌<◌, ◌∙◌, ◌+◌, ◌%◌, ℕ, Bool, length, arith, ap, sym, slice_set, length-set}
 use Rattle.ec_sync.specs.SyncManager.{SyncManager, message_put}
+use Rattle.ec_device.specs.Types.{SlaveKind}
 use Rattle.ec_coe.specs.declared.message.Message.{Message}
 use Rattle.ec_regs.specs.declared.manager.SyncManagerSettings.{SyncManagerSettings}
 use Rattle.ec_coe.specs.ReplyBytes.{reply_bytes}
 use Rattle.ec_coe.specs.Objects.{Dictionary}
 use Rattle.ec_coe.specs.Answers.{Answer, answered}
 use Rattle.ec_coe.proofs.DownloadEffects.{answered-slots}
-use Rattle.ec_slave.specs.State.{SlaveState, manager_at}
+use Rattle.ec_slave.specs.State.{SlaveState, fmmus_of, manager_at}
 use Rattle.ec_slave.specs.Serving.{is_preop, reply_counter, dictionary_of, answer_to, bytes_to}
 use Rattle.ec_slave.proofs.AppAccess.Bytes.{indexed}
 use Rattle.ec_slave.proofs.FirmwareRuns.StepParts.{replied-by}
@@ -24,7 +25,7 @@ invariant_of-self c =
     record {
       room = c.self.invariant.room;
       four = length-set c.self.inside.managers.items 1 c.mailbox_put.new.self ∙ c.self.invariant.four;
-      decoded = c.self.invariant.decoded;
+      decoded = c.self.invariant.decoded ∙ ap (λ (x : SlaveKind). fmmus_of x.hardware c.self.inside.memory.items) (sym kind);
       image = c.self.invariant.image ∙ sym (rw (identity, kind));
     }
 

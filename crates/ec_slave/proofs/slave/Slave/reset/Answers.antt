@@ -23,7 +23,7 @@ returns c =
     (take_front managers _ c.self.inside.managers.len (omega (arith, managers_ok, four, ap length c.reset_managers.ensures)) ∙ c.reset_managers.ensures)
     c.reset.ensures
     (c.reset-2.ensures ∙ ap idle_port c.self.invariant.image)
-    (c.new-self-inside.ensures ∙ ap new_data_link (c.face.ensures.value ∙ ap (λ (k : SlaveKind). k.face) c.kind.ensures))
+    (c.new-self-inside.ensures ∙ ap new_data_link (c.face.ensures.value ∙ ap (λ (k : SlaveKind). k.face) c.kind-2.ensures))
     ∙ ap (λ (s : SlaveState). power_on s.kind s.identity) c.self.view_is
 
 pub invariant_of-self : goal.invariant_of-self

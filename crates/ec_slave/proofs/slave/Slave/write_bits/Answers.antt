@@ -3,7 +3,7 @@ use Rattle.ec_bits.specs.Bits.{overlay}
 use Rattle.ec_regs.specs.declared.fmmu.FmmuSettings.{FmmuSettings}
 use Rattle.ec_sync.specs.SyncManager.{SyncManager}
 use Rattle.ec_fmmu.specs.Applied.{LogicalSpan}
-use Rattle.ec_slave.specs.State.{SlaveState, fmmus_of, with_memory}
+use Rattle.ec_slave.specs.State.{SlaveState, fmmus, fmmus_of, with_memory}
 use Rattle.ec_slave.specs.Logical.{logical_managers, plain_bit}
 use Rattle.ec_slave.proofs.LogicalAccess.ExchangedFrom.{take_front}
 use Rattle.ec_slave.proofs.LogicalAccess.SlaveWritten.{slave_written, decoded-mapped, some_found}
@@ -23,9 +23,9 @@ invariant_of-self c =
       room = ap length front ∙ (long ∙ (ap length own ∙ c.self.invariant.room));
       four = ap length (take_front c.access_managers-in_manager.new.managers _ c.self.inside.managers.len (let own_2 = c.deref_mut-2.ensures.value in let ok_2 = c.self.inside.managers.ok in let long_2 = c.access_managers-in_manager.auto.managers in omega (arith, ap length own_2, ok_2, long_2)))
           ∙ (c.access_managers-in_manager.auto.managers ∙ (ap length c.deref_mut-2.ensures.value ∙ c.self.invariant.four));
-      decoded = c.self.invariant.decoded ∙ (ap fmmus_of (sym own)
-          ∙ (decoded-mapped c.deref.result.now c.self.inside.fmmus p c.args.bytes.now old
-          ∙ ap fmmus_of (sym (front ∙ c.write_logical-in_memory.ensures.memory))));
+      decoded = c.self.invariant.decoded ∙ (ap (fmmus_of c.self.inside.dictionary.kind.hardware) (sym own)
+          ∙ (decoded-mapped c.self.inside.dictionary.kind.hardware c.deref.result.now c.self.inside.fmmus p c.args.bytes.now old
+          ∙ ap (fmmus_of c.self.inside.dictionary.kind.hardware) (sym (front ∙ c.write_logical-in_memory.ensures.memory))));
       image = c.self.invariant.image;
     }
 
@@ -54,7 +54,7 @@ returns-clause-slave c =
     (front ∙ (c.write_logical-in_memory.ensures.memory
     ∙ (ap (λ (xs : List ℕ). overlay xs (plain_bit c.deref.result.now fs p c.args.bytes.now)) (own ∙ memory)
     ∙ ap (λ (ms : List SyncManager). overlay s.memory (plain_bit ms fs p c.args.bytes.now)) (c.deref.ensures.value ∙ managers))))
-    (c.self.invariant.decoded ∙ ap fmmus_of memory)
+    (c.self.invariant.decoded ∙ ap fmmus c.self.view_is)
     (front_2 ∙ (c.access_managers-in_manager.ensures.after ∙ ap (λ (ms : List SyncManager). logical_managers [] c.args.reading true fs p c.args.bytes.now ms) (own_2 ∙ managers)))
 
 pub returns-clause-some : goal.returns-clause-some
@@ -67,4 +67,4 @@ returns-clause-some c =
     let managers = ap (λ (x : SlaveState). x.managers) c.self.view_is in
     let own_2 = c.deref_mut-2.ensures.value in
     some_found s.managers c.deref.result.now c.deref_mut-2.result.now fs _ p b _ _ c.write_logical-in_memory.ensures.any (c.deref.ensures.value ∙ managers)
-    c.access_managers-in_manager.ensures.any (own_2 ∙ managers) (c.self.invariant.decoded ∙ ap fmmus_of memory)
+    c.access_managers-in_manager.ensures.any (own_2 ∙ managers) (c.self.invariant.decoded ∙ ap fmmus c.self.view_is)

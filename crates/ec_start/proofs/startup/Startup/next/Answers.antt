@@ -1,19 +1,19 @@
-use Rattle.std.proofs.Common.{sym, ap, subst, rules}
+use Rattle.std.proofs.Common.{◌∙◌, sym, ap, subst, rules}
 use Rattle.ec_frame.specs.Building.{bare_payload}
 use Rattle.ec_frame.specs.Frame.{IsFrame}
 use Rattle.ec_start.specs.declared.action.Action.{Action}
 use Rattle.ec_start.specs.Actions.{frame_of}
-use Rattle.ec_start.specs.HeldPlans.{plan_in}
 use Rattle.ec_start.specs.Running.{StartState, action_of, is_ended}
-use Rattle.ec_start.proofs.Startups.{action_is}
 use Rattle.ec_start.proofs.startup.Startup.next.Goals as goal
+
+pub action-requires : goal.action-requires
+action-requires c = ap (λ (t : StartState). is_ended t.phase) (sym c.self.view_is) ∙ ap is_ended c.in-Idle.is
 
 pub returns-clause-written : goal.returns-clause-written
 returns-clause-written c =
     let i = c.self.inside in
-    let is = action_is (plan_in i.held).slaves i.place i.step (c.self.invariant.at_step (ap is_ended c.in-Idle.is)) in
-    λ e. subst (λ (s : StartState). IsFrame c.write_frame.new.frame.items (bare_payload (frame_of (action_of s) s.next))) c.self.view_is
-    (subst (λ (a : Action). IsFrame c.write_frame.new.frame.items (bare_payload (frame_of a i.next))) (sym is) c.write_frame.ensures)
+    λ e. subst (λ (n : _). IsFrame c.write_frame.new.frame.items (bare_payload (frame_of (action_of c.args.self.now) n))) (ap (λ (s : StartState). s.next) c.self.view_is)
+    (subst (λ (a : Action). IsFrame c.write_frame.new.frame.items (bare_payload (frame_of a i.next))) c.action.ensures.value c.write_frame.ensures)
 
 pub invariant_of-self-2 : goal.invariant_of-self-2
 invariant_of-self-2 c = search rules

@@ -1,5 +1,5 @@
-use Rattle.ec_world.proofs.Words.{◌∙◌, ap, length, sym, List, SlavePlan, StartState, MasterState, PlanState, plan_sound}
-use Rattle.ec_world.proofs.Refinement.StepsRefine.{begun_plan}
+use Rattle.ec_world.proofs.Words.{◌∙◌, ap, length, sym, List, SlavePlan, StartState, MasterState, PlanState, plan_sound, feeds_of}
+use Rattle.ec_world.proofs.Refinement.StepsRefine.{begun_feeds, begun_plan}
 use Rattle.ec_world.proofs.StartUp.IsNew.{usable-of, few-of}
 use Rattle.std.proofs.Common.{rules}
 use Rattle.ec_world.proofs.world.World.new.Goals as goal
@@ -17,7 +17,8 @@ switched_on-requires c =
 pub invariant_of-result : goal.invariant_of-result
 invariant_of-result c = record {
   usable = usable-of c.args.table.now c.args.plan.now c.is_sound.ensures c.requires.accepted c.requires.plan;
-  start = ap (λ (x : StartState). x.plan) c.in_ok-start.ensures.start ∙ begun_plan c.args.plan.now.slaves 0;
+  start = ap (λ (x : StartState). x.plan) c.in_ok-start.ensures.start ∙ begun_plan c.args.plan.now.slaves (feeds_of c.args.plan.now) 0;
+  feeds = ap (λ (x : StartState). x.feeds) c.in_ok-start.ensures.start ∙ begun_feeds c.args.plan.now.slaves (feeds_of c.args.plan.now) 0;
   master = ap (λ (x : MasterState). x.plan) c.in_ok-start.ensures.master;
 }
 

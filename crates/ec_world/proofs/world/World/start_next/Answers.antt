@@ -21,7 +21,8 @@ invariant_of-self c =
     let s = c.self.inside.start in
     record {
       usable = i.usable;
-      start = ap (λ (x : StartState). x.plan) c.next.ensures.state ∙ (asked_plan c.resume.new.start ∙ (ap (λ (x : StartState). x.plan) c.resume.ensures ∙ (resumed_plan s s.phase ∙ i.start)));
+      start = ap (λ (x : StartState). x.plan) c.next.ensures.state ∙ ((asked_plan c.resume.new.start).plan ∙ (ap (λ (x : StartState). x.plan) c.resume.ensures ∙ ((resumed_plan s s.phase).plan ∙ i.start)));
+      feeds = ap (λ (x : StartState). x.feeds) c.next.ensures.state ∙ ((asked_plan c.resume.new.start).feeds ∙ (ap (λ (x : StartState). x.feeds) c.resume.ensures ∙ ((resumed_plan s s.phase).feeds ∙ i.feeds)));
       master = i.master;
     }
 

@@ -1,0 +1,86 @@
+-- What a slave of a type of real devices does that others don't: its registers go by numbers and by the addresses of its pins, it
+-- may lack FMMUs and firmware, and it may want outputs before OP.
+use Rattle.std.specs.Prelude.{ℕ, ◌+◌, ◌%◌, ◌<◌, ◌≡◌, ◌≢◌, List, true, false, Option, Some, None}
+use Rattle.ec_device.specs.declared.hardware.Hardware.{Hardware}
+use Rattle.ec_device.specs.declared.slave_type.Identity.{Identity}
+use Rattle.ec_device.specs.Hardware.{AreNumbered, manager_number, has_firmware}
+use Rattle.ec_device.specs.Types.{SlaveKind}
+use Rattle.ec_regs.specs.declared.manager.SyncManagerSettings.{SyncManagerSettings}
+use Rattle.ec_regs.specs.Managers.{manager_bytes}
+use Rattle.ec_regs.specs.Memory.{al_status, manager_start}
+use Rattle.ec_regs.specs.Names.{shown_manager}
+use Rattle.ec_frame.specs.Datagram.{Datagram}
+use Rattle.ec_al.specs.Transitions.{requested_by}
+use Rattle.ec_al.specs.declared.state.State.{State}
+use Rattle.ec_al.specs.declared.state.State.TheVariants.{Op}
+use Rattle.ec_al.specs.declared.transition.Requested.TheVariants.{To}
+use Rattle.ec_sync.specs.Governing.{manager_byte}
+use Rattle.ec_slave.specs.State.{SlaveState, manager_at, power_on}
+use Rattle.ec_slave.specs.Physical.{Window, byte_at, as_shown, is_configured, is_missing, settings_written}
+use Rattle.ec_slave.specs.Meeting.{slave_met}
+use Rattle.ec_slave.specs.Application.{input_put, output_got, output_taken}
+use Rattle.ec_slave.specs.Checking.{control_word}
+use Rattle.ec_slave.specs.Faulting.{faulted}
+use Rattle.ec_slave.specs.Serving.{served}
+use Rattle.ec_slave.specs.Showing.{after_all}
+use Rattle.ec_slave.specs.Steps.{Happening}
+
+-- ---- names at the border
+
+-- a write of the eight bytes of the manager that has the number of place n, with these settings as registers have them
+abbrev pub naming_manager : Option Hardware → ℕ → SyncManagerSettings → Window
+naming_manager o n m = record { from = manager_start (manager_number o n); bytes = manager_bytes (shown_manager o m) }
+
+-- What a master writes by a type's numbers and addresses, the slave takes at the role's place, with the address that it has
+-- inside, and at no other place; what the registers of that number read is what the manager at the place holds.
+pub record TakesNames (s : SlaveState) (n : ℕ) : Type 0 where
+  pub taken : (m : SyncManagerSettings) → settings_written s.kind.hardware (naming_manager s.kind.hardware n m) n (manager_at s.managers n) ≡ m
+  pub set : (m : SyncManagerSettings) → is_configured s.kind.hardware (naming_manager s.kind.hardware n m) n ≡ true
+  pub others : (m : SyncManagerSettings) (k : ℕ) → k < 4 → k ≢ n → is_configured s.kind.hardware (naming_manager s.kind.hardware n m) k ≡ false
+  pub read : (k : ℕ) → k < 8 → byte_at s (manager_start (manager_number s.kind.hardware n) + k) ≡ manager_byte (as_shown s.kind.hardware (manager_at s.managers n)) k
+
+abbrev pub SlavesTakeNames : Type 0
+SlavesTakeNames = (s : SlaveState) (n : ℕ) → AreNumbered s.kind.hardware → n < 4 → TakesNames s n
+
+-- ---- missing FMMUs
+
+-- Whatever happens to a slave since it was switched on, the registers of FMMUs that it lacks read 0.
+abbrev pub MissingFmmusReadZero : Type 0
+MissingFmmusReadZero =
+    (kind : SlaveKind) (identity : Identity) (happenings : List Happening) (a : ℕ) → is_missing kind.hardware a ≡ true
+    → byte_at (after_all (power_on kind identity) happenings) a ≡ 0
+
+-- ---- the AL state machine
+
+-- A device without firmware shows what AL control says, state and acknowledge bit, after the next step: without an error code.
+abbrev pub StatusIsCopied : Type 0
+StatusIsCopied =
+    (s : SlaveState) (wanted : State) → has_firmware s.kind.hardware ≡ false → s.al.requested ≡ true
+    → requested_by (control_word s) ≡ To wanted
+    → (byte_at (served s) al_status ≡ control_word s % 32) × ((served s).al.code ≡ 0)
+
+-- A device of a type of real devices that has firmware enters OP only if no outputs are awaited.
+abbrev pub OutputsComeFirst : Type 0
+OutputsComeFirst =
+    (s : SlaveState) (h : Hardware) → s.kind.hardware ≡ Some h → h.has_firmware ≡ true → s.al.state ≢ Op → (served s).al.state ≡ Op
+    → (manager_at s.managers 2).awaited ≡ false
+
+-- Outputs are awaited outside OP alone, and by firmware of real devices alone.
+pub record AwaitsOutsideOp (s : SlaveState) : Type 0 where
+  pub in_op : s.al.state ≡ Op → (manager_at s.managers 2).awaited ≡ false
+  pub plain : s.kind.hardware ≡ None → (n : ℕ) → (manager_at s.managers n).awaited ≡ false
+  pub without_firmware : has_firmware s.kind.hardware ≡ false → (n : ℕ) → (manager_at s.managers n).awaited ≡ false
+
+-- That holds when the power comes on, and stays so, whatever happens.
+abbrev pub SwitchedOnAwaitsNothing : Type 0
+SwitchedOnAwaitsNothing = (kind : SlaveKind) (identity : Identity) → AwaitsOutsideOp (power_on kind identity)
+
+pub record StaysOutsideOp (s : SlaveState) : Type 0 where
+  pub met : (d : Datagram) → AwaitsOutsideOp (slave_met s d)
+  pub served : AwaitsOutsideOp (served s)
+  pub faulted : AwaitsOutsideOp (faulted s)
+  pub put : (i x : ℕ) (t : SlaveState) → input_put s i x ≡ Some t → AwaitsOutsideOp t
+  pub taken : (i : ℕ) → AwaitsOutsideOp (output_taken s (output_got s i))
+
+abbrev pub OutputsAreAwaitedOutsideOp : Type 0
+OutputsAreAwaitedOutsideOp = (s : SlaveState) → AwaitsOutsideOp s → StaysOutsideOp s
