@@ -1,5 +1,5 @@
 /* Measures a cycle by the calls of the library, as bench/library/main.rattle does by those that they hand on: alone, and with
-   the slaves' firmware steps and applications, which copy their outputs to their inputs.
+   a step of each slave and of its application, which copies its outputs to its inputs.
 
      cycle TABLE */
 #define BYTES 64
@@ -16,11 +16,21 @@ static double now(void) {
     return (double)t.tv_sec * 1e9 + (double)t.tv_nsec;
 }
 
+/* A step of each slave and of its application, whose inputs are the outputs that it read in the step before. */
+static inline void step_all(struct ecat_segment *slaves, size_t count) {
+    static uint8_t copies[SLAVES][BYTES];
+    for (size_t slave = 0; slave < count; slave++) {
+        uint8_t outputs[BYTES] = {0};
+        ecat_segment_exchange(slaves, slave, copies[slave], BYTES, outputs, BYTES);
+        memcpy(copies[slave], outputs, BYTES);
+    }
+}
+
 /* A cycle, with the slaves' own work, if they are served. Returns whether its inputs were taken. */
 static inline bool is_taken(struct ecat *m, struct ecat_segment *slaves, bool served, uint16_t *al) {
     size_t missing;
     exchange(m, slaves);
-    if (served) serve(slaves);
+    if (served) step_all(slaves, ecat_slaves(m));
     return ecat_close(m, &missing, al) && missing == 0 && *al == 8 && ecat_unit(m, 0) == 1;
 }
 
