@@ -111,6 +111,22 @@ GOALS: dict[str, str] = {
     "Falls": "up, but state SAFEOP+ERROR 001d; pins 00, wanted a5",
 }
 
+# how `ecat scan` ends with each row, and how the row starts by the table that was found: `found; up`, but for these rows
+SCANNED: dict[str, str] = {
+    # Entries of over 64 bits, and managers over 3, can't be said. The start-up leaves such inputs as they are, and so their manager has
+    # another length (0x1E); of the managers it sets others (0x1D).
+    "EL6224": "46 Unsaid 0; 29 AlError 0 30", "FourthManager": "46 Unsaid 0; 29 AlError 0 29",
+    # no reply comes, or none to the request
+    **dict.fromkeys(("Deaf", "EndlessEmergencies", "Erring"), "31 TooSlow"), "WrongIndex": "9 BadMailbox 0",
+    # the scan sets such messages aside, and takes a value of another size or without one; the start-up doesn't yet
+    **dict.fromkeys(("Emergencies", "Chatty", "OtherProtocol", "Unsized", "Wide", "DriveShouting", "FixedWithParameters"), "found; 9 BadMailbox 0"),
+    "drives": "found; 9 BadMailbox 3", "parameters": "found; 9 BadMailbox 2",
+    # their SIIs say that the assignment can be written; 0x06010002: the object can only be read
+    **dict.fromkeys(("FixedAssignment", "FixedOtherwise", "FixedFewer"), "found; 30 Abort 0 100728834"),
+    # there are no distributed clocks
+    "DriveByClocks": "found; 29 AlError 0 48",
+}
+
 
 def expected(name: str) -> tuple[str, str]:
     """The ends of a row: with a table of today's keys, and with one for hardware."""

@@ -138,7 +138,7 @@ DI3 = Row(
     outputs=[], inputs=[(0x1A00, [(0x6000, 1, 1), (0x6000, 2, 1), (0x6000, 3, 1)])],
     output_bytes=0, input_bytes=1, lrw=True, categories=[(10, 3), (30, 16), (40, 2), (41, 16), (50, 16)], end=0x7F, size=2)
 
-# valves and sensors, eight times, in the line
+# valves and sensors, eight times, in the line; 32 times, as many slaves as there may be
 MACHINES = {
     "drive": Machine("examples/drive.toml", [SERVO]),
     "line": Machine("examples/line.toml", [DO16, DI16] * 8),
@@ -146,4 +146,6 @@ MACHINES = {
     "terminals": Machine("examples/terminals.toml", [COUPLER, DI8, DO8, DI8, DO8]),
     "axis": Machine("tools/scan/data/axis.toml", [AXIS, LAMPS, EYE]),
     "kibibit": Machine("tools/scan/data/kibibit.toml", [DI3]),
+    "many": Machine("tools/scan/data/many.toml", [DO16, DI16] * 32),
+    "nobody": Machine("tools/scan/data/nobody.toml", []),
 }

@@ -50,7 +50,7 @@ pub fn run_connected<H: AllocGlobal + Net + Files + Clock, R: Read + Drop, O: Wr
 {
     match options.descriptor {
         None => {
-            let wire = connect(rt, options)?;
+            let wire = connect(rt, options.to, options.patience)?;
             let mastered = Mastered::new(rt.alloc(), rt, machine, wire, options.manner)?;
             run_tapped(rt, mastered, capture, input, output)
         }
@@ -63,12 +63,12 @@ pub fn run_connected<H: AllocGlobal + Net + Files + Clock, R: Read + Drop, O: Wr
     }
 }
 
-/// A socket that is connected to the segment at the address of the options.
-fn connect<R: Net>(rt: &R, options: MasterOptions<'_>) -> Result<UdpWire, SocketFault>
+/// A socket that is connected to the segment at an address with a port, and waits so many milliseconds for an answer.
+pub fn connect<R: Net>(rt: &R, to: &str, patience: u16) -> Result<UdpWire, SocketFault>
     ensures { IfOk result (λ w. w.failed ≡ 0) }
 {
-    match options.to.parse::<SocketAddrV4>() {
-        Ok(peer) => UdpWire::connect_patient(rt, peer, options.patience),
+    match to.parse::<SocketAddrV4>() {
+        Ok(peer) => UdpWire::connect_patient(rt, peer, patience),
         Err(_) => Err(SocketFault(Trouble::Unmade)),
     }
 }

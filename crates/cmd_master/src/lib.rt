@@ -6,5 +6,5 @@ pub mod laws;
 mod mastered;
 mod why;
 
-pub use crate::command::{MasterOptions, run_connected};
+pub use crate::command::{MasterOptions, connect, run_connected};
 pub use crate::mastered::Mastered;

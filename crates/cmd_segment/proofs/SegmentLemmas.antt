@@ -93,6 +93,7 @@ serves-any (Err (refusal.Script e)) frames may_produce first last before after o
 serves-any (Err refusal.BadHex) frames may_produce first last before after old new h = absurd h
 serves-any (Err refusal.Input) frames may_produce first last before after old new h = absurd h
 serves-any (Err (refusal.Unmet n)) frames may_produce first last before after old new h = absurd h
+serves-any (Err (refusal.Unsaid n)) frames may_produce first last before after old new h = absurd h
 
 -- ---- a wire that is opened
 

@@ -6,3 +6,5 @@ mod PlanLemmas
 mod RunLemmas
 -- arguments that can't be right, and the work of a segment
 mod WrongLemmas
+-- a scan that is compared with the table in a file
+mod ScanLemmas

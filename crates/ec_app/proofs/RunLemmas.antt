@@ -27,7 +27,7 @@ use Rattle.ec_app.specs.Running.{Ends, EndsAlone, EndsGiven, EndsOwning, EndsUnr
 use Rattle.ec_app.specs.Placing.{AllStandard, Places, places_of}
 use Rattle.ec_console.specs.declared.console.Terminals.{Terminals}
 use Rattle.cmd_segment.specs.declared.endpoint.Endpoint.{Endpoint}
-use Rattle.ec_args.specs.Requests.{Command, DecodeOf, EncodeOf, LoopOf, MasterOf, PassOf, PlanOf, Reads, SegmentArguments, SegmentOf, SimOf, command_of}
+use Rattle.ec_args.specs.Requests.{Command, DecodeOf, EncodeOf, LoopOf, MasterOf, PassOf, PlanOf, Reads, ScanOf, SegmentArguments, SegmentOf, SimOf, command_of}
 use Rattle.ec_args.specs.declared.request.Arguments.{Arguments}
 use Rattle.ec_args.specs.declared.request.Notice.{Notice}
 
@@ -58,6 +58,7 @@ input_left (SimOf l c e s) old new app_old app_new alone = tt
 input_left (LoopOf n c e) old new app_old app_new alone = tt
 input_left (SegmentOf a c e) old new app_old app_new alone = tt
 input_left (MasterOf t d p c e s) old new app_old app_new alone = tt
+input_left (ScanOf t d p a) old new app_old app_new alone = alone.0
 
 pub app_left : {R A : Type 0} (command : Command) (old new : R) (app_old app_new : A) → LeavesAlone command old new app_old app_new → LeavesAppOf command app_old app_new
 app_left (PassOf n f) old new app_old app_new alone = alone.1
@@ -68,6 +69,7 @@ app_left (SimOf l c e s) old new app_old app_new alone = alone
 app_left (LoopOf n c e) old new app_old app_new alone = tt
 app_left (SegmentOf a c e) old new app_old app_new alone = alone
 app_left (MasterOf t d p c e s) old new app_old app_new alone = alone
+app_left (ScanOf t d p a) old new app_old app_new alone = alone.1
 
 -- and an application that isn't run is left alone
 live_left : {A : Type 0} (live : Bool) (app : A) → LeavesIf live app app
@@ -83,6 +85,7 @@ app_kept (SimOf l c e s) app = refl
 app_kept (LoopOf n c e) app = tt
 app_kept (SegmentOf a c e) app = live_left a.live app
 app_kept (MasterOf t d p c e s) app = refl
+app_kept (ScanOf t d p a) app = refl
 
 -- a command whose input is standard input, or that has one
 pub both_left : {R A : Type 0} (command : Command) (first second : Option (List ℕ)) (place : Places) (old new : R) (app_old app_new : A) → place ≡ places_of command first second
@@ -95,6 +98,7 @@ both_left (SimOf l c e s) first second place old new app_old app_new is input ap
 both_left (LoopOf n c e) first second place old new app_old app_new is input app = tt
 both_left (SegmentOf a c e) first second place old new app_old app_new is input app = app
 both_left (MasterOf t d p c e s) first second place old new app_old app_new is input app = app
+both_left (ScanOf t d p a) first second place old new app_old app_new is input app = (input is, app)
 
 -- an explanation that is left twice
 pub left_twice : (first middle last : Behind) → IsLeft first middle → IsLeft middle last → IsLeft first last
@@ -120,6 +124,7 @@ unread_input given (why.Script e) refused = absurd refused
 unread_input given why.BadHex refused = absurd refused
 unread_input given why.Output refused = absurd refused
 unread_input given (why.Unmet n) refused = absurd refused
+unread_input given (why.Unsaid n) refused = absurd refused
 
 pub unread_text : {T : Type 0} (r : Result T Refusal) (given : Given) → IfErr r (IsInputRefusal given) → IfErr r IsUnread
 unread_text (Ok text) given refused = tt

@@ -1,6 +1,6 @@
 -- Where a command takes its inputs from, and what a terminal changes (this project's profile).
 use Rattle.std.specs.Prelude.{ℕ, ◌||◌, ◌&&◌, not, Bool, false, is_none, is_some, List, [], ◌∷◌, ◌++◌, Option, None, Some, codes}
-use Rattle.ec_args.specs.Requests.{Command, PassOf, PlanOf, DecodeOf, EncodeOf, SimOf, LoopOf, SegmentOf, MasterOf, is_explained}
+use Rattle.ec_args.specs.Requests.{Command, PassOf, PlanOf, DecodeOf, EncodeOf, SimOf, LoopOf, SegmentOf, MasterOf, ScanOf, is_explained}
 use Rattle.ec_console.specs.declared.console.Terminals.{Terminals}
 use Rattle.ec_app.specs.declared.places.Place.{Place}
 use Rattle.ec_app.specs.declared.places.Place.TheVariants as place
@@ -45,6 +45,7 @@ places_of (SimOf live capture explained strict) first second = place_of_both fir
 places_of (LoopOf cycles capture explained) first second = place_of_table first
 places_of (SegmentOf arguments capture explained) first second = place_of_table first
 places_of (MasterOf to descriptor patience capture explained strict) first second = place_of_both first second
+places_of (ScanOf to descriptor patience against) first second = AllStandard
 
 -- ---- terminals
 
@@ -62,6 +63,7 @@ reads_standard (SimOf live capture explained strict) first second = is_none firs
 reads_standard (LoopOf cycles capture explained) first second = is_none first
 reads_standard (SegmentOf arguments capture explained) first second = arguments.live || is_none first
 reads_standard (MasterOf to descriptor patience capture explained strict) first second = is_none first || is_none second
+reads_standard (ScanOf to descriptor patience against) first second = false
 
 -- it waits for someone who types
 abbrev pub waits : Terminals → Command → (first second : Option (List ℕ)) → Bool

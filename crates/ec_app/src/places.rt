@@ -25,7 +25,7 @@ impl<'a> Place<'a> {
         ensures { kind_of result ≡ places_of (command_of request.now) (first_of_inputs inputs.entry) (second_of_inputs inputs.entry) }
     {
         match request {
-            Request::Pass { .. } => Place::Standard,
+            Request::Pass { .. } | Request::Scan { .. } => Place::Standard,
             Request::Plan { .. } | Request::Decode { .. } | Request::Encode => {
                 Place::of_only(inputs.first)
             }
@@ -112,7 +112,7 @@ fn reads_standard(request: &Request<'_>, inputs: Inputs<'_>) -> bool
     ensures { result ≡ reads_standard (command_of request.now) (first_of_inputs inputs.entry) (second_of_inputs inputs.entry) }
 {
     match request {
-        Request::Pass { .. } => false,
+        Request::Pass { .. } | Request::Scan { .. } => false,
         Request::Plan { .. } | Request::Decode { .. } | Request::Encode | Request::Loop { .. } => {
             inputs.first.is_none()
         }

@@ -1,8 +1,9 @@
 //! `ecat decode` with remarks for people, by the standard's names and by a link table.
-ghost use Rattle.std.specs.Prelude.{IfErr, option_map};
+ghost use Rattle.std.specs.Prelude.{IfErr, IfOk, option_map};
 ghost use Rattle.std.specs.Option.{ForSome};
 ghost use Rattle.ec_link.specs.Usable.{IsUsable};
 ghost use Rattle.ec_app.specs.Remarking.{IsFileRefusal, RunsDecodeWith, RunsRemarked, RunsWith};
+ghost use Rattle.ec_app.specs.Scanned.{IsOfFile};
 ghost use Rattle.ec_console.specs.Explaining.{IsLeft};
 ghost use Rattle.ec_console.specs.Given.{given_by};
 
@@ -72,11 +73,12 @@ pub fn print_payloads<H: AllocGlobal + Files, R: Read + Drop, W: Write + Drop>(
 }
 
 /// The machine of the link table in a file.
-fn read_linked<H: AllocGlobal + Files>(
+pub(crate) fn read_linked<H: AllocGlobal + Files>(
     rt: &H,
     path: &str,
     behind: &mut Explanation,
 ) -> Result<Machine, Refusal>
+    ensures read { IfOk result IsOfFile }
     ensures refused { IfErr result IsFileRefusal }
     ensures explains { IsLeft behind.old behind.new }
 {

@@ -14,10 +14,12 @@ use crate::pass::print_pass;
 use crate::places::{Place, WAITING, explains, waits};
 use crate::plan::{PlanForm, prefix_or, print_plan};
 use crate::remarked::print_payloads;
+use crate::scan::print_scan;
 use crate::translate::print_encode;
 use crate::work::{Work, WorkInputs, run_work};
 use crate::wrong::wrong_of;
 use cmd_master::MasterOptions;
+use cmd_scan::ScanOptions;
 use cmd_segment::Endpoint;
 use ec_annotate::Names;
 use ec_args::{Arguments, Notice, Request, SegmentOptions, read_args};
@@ -434,6 +436,25 @@ fn run_request<
                 manner: Manner::of(explained, strict),
             };
             run_work(rt, Work::Master(options), capture, inputs, console, app)
+        }
+        Request::Scan {
+            to,
+            descriptor,
+            patience,
+            against,
+        } => {
+            let options = ScanOptions {
+                to,
+                descriptor,
+                patience,
+            };
+            print_scan(
+                rt,
+                options,
+                against,
+                &mut console.output,
+                &mut console.explanation,
+            )
         }
     }
 }

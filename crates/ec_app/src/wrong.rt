@@ -38,7 +38,9 @@ pub(crate) fn wrong_of(request: &Request<'_>) -> Option<Wrong>
 {
     match request {
         Request::Segment { options, .. } => wrong_segment(options.descriptor, options.bind),
-        Request::Master { to, descriptor, .. } => wrong_master(*descriptor, to),
+        Request::Master { to, descriptor, .. } | Request::Scan { to, descriptor, .. } => {
+            wrong_master(*descriptor, to)
+        }
         Request::Pass { .. }
         | Request::Plan { .. }
         | Request::Decode { .. }
@@ -62,7 +64,7 @@ fn wrong_segment(descriptor: Option<u16>, bind: &str) -> Option<Wrong>
     }
 }
 
-/// What is wrong with where a master asks.
+/// What is wrong with where a master or a scan asks.
 fn wrong_master(descriptor: Option<u16>, to: &str) -> Option<Wrong>
     ensures wrong { IfSome result (IsWrongAt descriptor (IsPeer to.now) Wrong.To) }
     ensures right { IfNone result (IsRightAt descriptor (IsPeer to.now)) }

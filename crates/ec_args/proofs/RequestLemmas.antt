@@ -24,7 +24,7 @@ use Rattle.ec_args.specs.declared.request.Arguments.{Arguments}
 use Rattle.ec_args.specs.declared.request.Inputs.{Inputs}
 use Rattle.ec_args.specs.declared.request.Request.{Request}
 use Rattle.ec_args.specs.CommandLine.{ecat}
-use Rattle.ec_args.specs.Requests.{Asks, AsksAll, ArePassArguments, ArePlanArguments, Command, Finds, FindsAny, FindsFlag, FindsInputs, FindsNumber, FindsText, IsFault, IsNotice, MeetsAs, MeetsCommand, SegmentArguments, PassIsRead, PlanIsRead, PassOf, PlanOf, DecodeOf, EncodeOf, SimOf, LoopOf, SegmentOf, MasterOf, command_of, first_of_inputs, is_answer, named, second_of_inputs, word_of}
+use Rattle.ec_args.specs.Requests.{Asks, AsksAll, ArePassArguments, ArePlanArguments, Command, Finds, FindsAny, FindsFlag, FindsInputs, FindsNumber, FindsText, IsFault, IsNotice, MeetsAs, MeetsCommand, SegmentArguments, PassIsRead, PlanIsRead, PassOf, PlanOf, DecodeOf, EncodeOf, SimOf, LoopOf, SegmentOf, MasterOf, ScanOf, command_of, first_of_inputs, is_answer, named, second_of_inputs, word_of}
 use Rattle.ec_args.specs.Stages.{IsAskedAs, IsNeverAsked}
 use Rattle.ec_args.proofs.PlanArguments.{explain-met, explain-no_fault, plan-met, plan-no_fault, plan_rows}
 use Rattle.ec_args.proofs.PassArguments.{ecat-is_simple, ecat-simple, frame_row, no-fault, number_argument, slaves_row, subcommand-pass, value_argument}
@@ -83,6 +83,7 @@ is_pass (SimOf l c e s) called = absurd (other_word (codes "sim") (codes "pass")
 is_pass (LoopOf n c e) called = absurd (other_word (codes "loop") (codes "pass") refl called)
 is_pass (SegmentOf a c e) called = absurd (other_word (codes "segment") (codes "pass") refl called)
 is_pass (MasterOf t d p c e s) called = absurd (other_word (codes "master") (codes "pass") refl called)
+is_pass (ScanOf t d p a) called = absurd (other_word (codes "scan") (codes "pass") refl called)
 
 pub is_plan : (command : Command) → word_of command ≡ codes "plan" → (h : Bool) × (p : Option Text) × (e : Bool) × (command ≡ PlanOf h p e)
 is_plan (PassOf n f) called = absurd (other_word (codes "pass") (codes "plan") refl called)
@@ -93,6 +94,7 @@ is_plan (SimOf l c e s) called = absurd (other_word (codes "sim") (codes "plan")
 is_plan (LoopOf n c e) called = absurd (other_word (codes "loop") (codes "plan") refl called)
 is_plan (SegmentOf a c e) called = absurd (other_word (codes "segment") (codes "plan") refl called)
 is_plan (MasterOf t d p c e s) called = absurd (other_word (codes "master") (codes "plan") refl called)
+is_plan (ScanOf t d p a) called = absurd (other_word (codes "scan") (codes "plan") refl called)
 
 pub is_loop : (command : Command) → word_of command ≡ codes "loop" → (n : ℕ) × (c : Option Text) × (e : Bool) × (command ≡ LoopOf n c e)
 is_loop (PassOf n f) called = absurd (other_word (codes "pass") (codes "loop") refl called)
@@ -103,6 +105,7 @@ is_loop (SimOf l c e s) called = absurd (other_word (codes "sim") (codes "loop")
 is_loop (LoopOf n c e) called = (n, c, e, refl)
 is_loop (SegmentOf a c e) called = absurd (other_word (codes "segment") (codes "loop") refl called)
 is_loop (MasterOf t d p c e s) called = absurd (other_word (codes "master") (codes "loop") refl called)
+is_loop (ScanOf t d p a) called = absurd (other_word (codes "scan") (codes "loop") refl called)
 
 pub is_segment : (command : Command) → word_of command ≡ codes "segment" → (a : SegmentArguments) × (c : Option Text) × (e : Bool) × (command ≡ SegmentOf a c e)
 is_segment (PassOf n f) called = absurd (other_word (codes "pass") (codes "segment") refl called)
@@ -113,6 +116,7 @@ is_segment (SimOf l c e s) called = absurd (other_word (codes "sim") (codes "seg
 is_segment (LoopOf n c e) called = absurd (other_word (codes "loop") (codes "segment") refl called)
 is_segment (SegmentOf a c e) called = (a, c, e, refl)
 is_segment (MasterOf t d p c e s) called = absurd (other_word (codes "master") (codes "segment") refl called)
+is_segment (ScanOf t d p a) called = absurd (other_word (codes "scan") (codes "segment") refl called)
 
 pub is_master : (command : Command) → word_of command ≡ codes "master" → (t : Text) × (d : Option ℕ) × (p : ℕ) × (c : Option Text) × (e : Bool) × (s : Bool) × (command ≡ MasterOf t d p c e s)
 is_master (PassOf n f) called = absurd (other_word (codes "pass") (codes "master") refl called)
@@ -123,6 +127,18 @@ is_master (SimOf l c e s) called = absurd (other_word (codes "sim") (codes "mast
 is_master (LoopOf n c e) called = absurd (other_word (codes "loop") (codes "master") refl called)
 is_master (SegmentOf a c e) called = absurd (other_word (codes "segment") (codes "master") refl called)
 is_master (MasterOf t d p c e s) called = (t, d, p, c, e, s, refl)
+is_master (ScanOf t d p a) called = absurd (other_word (codes "scan") (codes "master") refl called)
+
+pub is_scan : (command : Command) → word_of command ≡ codes "scan" → (t : Text) × (d : Option ℕ) × (p : ℕ) × (a : Option Text) × (command ≡ ScanOf t d p a)
+is_scan (PassOf n f) called = absurd (other_word (codes "pass") (codes "scan") refl called)
+is_scan (PlanOf h p e) called = absurd (other_word (codes "plan") (codes "scan") refl called)
+is_scan (DecodeOf t e) called = absurd (other_word (codes "decode") (codes "scan") refl called)
+is_scan EncodeOf called = absurd (other_word (codes "encode") (codes "scan") refl called)
+is_scan (SimOf l c e s) called = absurd (other_word (codes "sim") (codes "scan") refl called)
+is_scan (LoopOf n c e) called = absurd (other_word (codes "loop") (codes "scan") refl called)
+is_scan (SegmentOf a c e) called = absurd (other_word (codes "segment") (codes "scan") refl called)
+is_scan (MasterOf t d p c e s) called = absurd (other_word (codes "master") (codes "scan") refl called)
+is_scan (ScanOf t d p a) called = (t, d, p, a, refl)
 
 -- what is found for the arguments of a command of this name is what `clap` met
 pub asked_one : (name word : Text) (rows : List Row) (request : Request) → name ≡ word → IsAskedAs word rows request → Asks (Some (name, rows)) request
@@ -146,15 +162,16 @@ not_asked (Some request) name word rows called never = tt
 
 -- and a word that is none of theirs is no command
 pub no_such_word : (name : Text) (rows : List Row) → (name ≡ codes "pass" → ⊥) → (name ≡ codes "plan" → ⊥) → (name ≡ codes "decode" → ⊥) → (name ≡ codes "encode" → ⊥)
-    → (name ≡ codes "sim" → ⊥) → (name ≡ codes "loop" → ⊥) → (name ≡ codes "segment" → ⊥) → (name ≡ codes "master" → ⊥) → MeetsCommand (Some (name, rows)) → ⊥
-no_such_word name rows pass plan decode encode sim loop segment master (PassOf n f, met) = pass (ap name_in met.named)
-no_such_word name rows pass plan decode encode sim loop segment master (PlanOf h p e, met) = plan (ap name_in met.named)
-no_such_word name rows pass plan decode encode sim loop segment master (DecodeOf t e, met) = decode (ap name_in met.named)
-no_such_word name rows pass plan decode encode sim loop segment master (EncodeOf, met) = encode (ap name_in met.named)
-no_such_word name rows pass plan decode encode sim loop segment master (SimOf l c e s, met) = sim (ap name_in met.named)
-no_such_word name rows pass plan decode encode sim loop segment master (LoopOf n c e, met) = loop (ap name_in met.named)
-no_such_word name rows pass plan decode encode sim loop segment master (SegmentOf a c e, met) = segment (ap name_in met.named)
-no_such_word name rows pass plan decode encode sim loop segment master (MasterOf t d p c e s, met) = master (ap name_in met.named)
+    → (name ≡ codes "sim" → ⊥) → (name ≡ codes "loop" → ⊥) → (name ≡ codes "segment" → ⊥) → (name ≡ codes "master" → ⊥) → (name ≡ codes "scan" → ⊥) → MeetsCommand (Some (name, rows)) → ⊥
+no_such_word name rows pass plan decode encode sim loop segment master scan (PassOf n f, met) = pass (ap name_in met.named)
+no_such_word name rows pass plan decode encode sim loop segment master scan (PlanOf h p e, met) = plan (ap name_in met.named)
+no_such_word name rows pass plan decode encode sim loop segment master scan (DecodeOf t e, met) = decode (ap name_in met.named)
+no_such_word name rows pass plan decode encode sim loop segment master scan (EncodeOf, met) = encode (ap name_in met.named)
+no_such_word name rows pass plan decode encode sim loop segment master scan (SimOf l c e s, met) = sim (ap name_in met.named)
+no_such_word name rows pass plan decode encode sim loop segment master scan (LoopOf n c e, met) = loop (ap name_in met.named)
+no_such_word name rows pass plan decode encode sim loop segment master scan (SegmentOf a c e, met) = segment (ap name_in met.named)
+no_such_word name rows pass plan decode encode sim loop segment master scan (MasterOf t d p c e s, met) = master (ap name_in met.named)
+no_such_word name rows pass plan decode encode sim loop segment master scan (ScanOf t d p a, met) = scan (ap name_in met.named)
 
 -- a number that `get_one` read, one that it may leave out, a text that `get_str` read, and a flag
 pub finds_number : (found : Found) (id : Text) (bits : ℕ) (r : Option ℕ) (n : ℕ) → (one_text found id ≡ None → r ≡ None)
@@ -248,6 +265,17 @@ pub no_patience : (found : Found) (r : Option ℕ) → ((t : List ℕ) → one_t
 no_patience found r value is command called h =
     let it = is_master command called in
     finds_no_number found (codes "patience") 16 r it.2 value is (subst (Finds (rows_of found)) it.6 h).for_patience
+
+pub scan_no_to : (found : Found) → first_value found (codes "to") ≡ None → IsNeverAsked (codes "scan") (rows_of found)
+scan_no_to found none command called h =
+    let it = is_scan command called in
+    no_text found (codes "to") it.0 none (subst (Finds (rows_of found)) it.4 h).for_to
+
+pub scan_no_patience : (found : Found) (r : Option ℕ) → ((t : List ℕ) → one_text found (codes "patience") ≡ Some t → ReadsOne (NumberGives 16) t r) → r ≡ None
+    → IsNeverAsked (codes "scan") (rows_of found)
+scan_no_patience found r value is command called h =
+    let it = is_scan command called in
+    finds_no_number found (codes "patience") 16 r it.2 value is (subst (Finds (rows_of found)) it.4 h).for_patience
 
 -- what `clap` makes of the arguments of `pass`
 pub no_fault-pass : (args : List Text) (slaves : ℕ) (frame : Text) → ArePassArguments args slaves frame → fault_of ecat args ≡ []

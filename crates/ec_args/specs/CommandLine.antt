@@ -121,6 +121,10 @@ to_rule = or_else (codes "127.0.0.1:34980") (text_rule (codes "to"))
 abbrev pub patience_rule : Rule
 patience_rule = or_else (codes "500") (number_rule (codes "patience") 1 60000)
 
+-- the file of the table that a scan is compared with
+abbrev pub against_rule : Rule
+against_rule = text_rule (codes "against")
+
 -- ---- the commands
 
 abbrev pub pass_shape : Shape
@@ -172,6 +176,13 @@ asking = with_rule (with_rule reaching patience_rule) capture_rule
 abbrev pub master_shape : Shape
 master_shape = (with_rule (with_input (with_rule (with_rule asking strict_rule) explain_rule)) lines_rule).top
 
+-- which segment is scanned, how long a scan waits for answers, and the table that it is compared with
+abbrev pub scanning : App
+scanning = with_rule (with_rule (new_app (codes "scan")) to_rule) descriptor_rule
+
+abbrev pub scan_shape : Shape
+scan_shape = (with_rule (with_rule scanning patience_rule) against_rule).top
+
 -- `ecat` and its commands, one of which must be given; it also has a version. First those that simulate nothing but a pass,
 abbrev pub planning : App
 planning =
@@ -187,6 +198,9 @@ telling = with_subcommand (with_subcommand planning decode_shape) encode_shape
 abbrev pub cycling : App
 cycling = with_subcommand (with_subcommand telling sim_shape) loop_shape
 
--- and those that are one end of a wire: a segment, which answers a master elsewhere, and a master
+-- and those that are one end of a wire: a segment, which answers a master elsewhere, a master, and a scan
+abbrev pub ending : App
+ending = with_subcommand (with_subcommand cycling segment_shape) master_shape
+
 abbrev pub ecat : App
-ecat = with_subcommand (with_subcommand cycling segment_shape) master_shape
+ecat = with_subcommand ending scan_shape

@@ -5,14 +5,14 @@ ghost use Rattle.std.specs.Prelude.{◌≡◌, Some, codes, IfOk, true};
 ghost use Rattle.clap.specs.Simple.{App, app_of, new_app, new_rule, on_top, with_rule, with_subcommand};
 ghost use Rattle.clap.specs.Walk.{Rule};
 ghost use Rattle.clap.specs.declared.builder.action.ArgAction.TheVariants.{Set};
-ghost use Rattle.ec_args.specs.CommandLine.{decode_shape, ecat, encode_shape, loop_shape, master_shape, pass_shape, plan_shape, segment_shape, sim_shape};
+ghost use Rattle.ec_args.specs.CommandLine.{decode_shape, ecat, encode_shape, loop_shape, master_shape, pass_shape, plan_shape, scan_shape, segment_shape, sim_shape};
 ghost use Rattle.ec_args.specs.CommandLine.{capture_rule, descriptor_rule, explain_rule, flag_rule, lines_rule, needed, number_rule, or_else, strict_rule, text_rule, with_input};
 ghost use Rattle.ec_args.specs.Stages.{IsArgument, IsMadeAs, alone};
 
 use crate::helps::{
     DECODE_EXAMPLE, DECODE_LINES, ENCODE_EXAMPLE, ENCODE_LINES, EXIT_STATUSES, LOOP_EXAMPLE,
     LOOP_LINES, MASTER_EXAMPLE, MASTER_LINES, PASS_EXAMPLE, PASS_REFUSALS, PLAN_EXAMPLE,
-    PLAN_LINES, SEGMENT_EXAMPLE, SEGMENT_LINES, SIM_EXAMPLE, SIM_LINES,
+    PLAN_LINES, SCAN_EXAMPLE, SCAN_LINES, SEGMENT_EXAMPLE, SEGMENT_LINES, SIM_EXAMPLE, SIM_LINES,
 };
 use clap::builder::ValueParser;
 use clap::{Arg, ArgAction, Command};
@@ -32,7 +32,8 @@ pub fn command<'a>(alloc: Global) -> Made<'a>
     let commands = with_command(commands, sim_command(alloc));
     let commands = with_command(commands, loop_command(alloc));
     let commands = with_command(commands, segment_command(alloc));
-    with_command(commands, master_command(alloc))
+    let commands = with_command(commands, master_command(alloc));
+    with_command(commands, scan_command(alloc))
 }
 
 /// `ecat` without a command.
@@ -190,6 +191,25 @@ fn master_command<'a>(alloc: Global) -> Made<'a>
     let command = with_argument(command, explain_argument(alloc));
     let command = with_input(alloc, command, "TABLE");
     with_argument(command, lines_argument(alloc, "LINES"))
+}
+
+/// `ecat scan [--to ADDRESS:PORT | --descriptor N] [--patience MS] [--against TABLE]`.
+fn scan_command<'a>(alloc: Global) -> Made<'a>
+    ensures { IsMadeAs result (alone scan_shape) }
+{
+    let usage =
+        "ecat scan [--to <ADDRESS:PORT> | --descriptor <N>] [--patience <MS>] [--against <TABLE>]";
+    let about = "Finds the slaves of a segment and prints a link table of them";
+    let command = used_as(alloc, "scan", usage, about, SCAN_EXAMPLE, SCAN_LINES);
+    let help = "The IPv4 address and the UDP port of the segment";
+    let to = by_default(option(alloc, "to", "ADDRESS:PORT", help), "127.0.0.1:34980");
+    let command = with_argument(command, to);
+    let command = with_argument(command, descriptor_argument(alloc));
+    let help = "How many milliseconds it waits for an answer, 1 to 60000";
+    let patience = by_default(number(alloc, "patience", "MS", 1, 60000, help), "500");
+    let command = with_argument(command, patience);
+    let help = "Print what differs from this link table instead: status 5 if anything does";
+    with_argument(command, option(alloc, "against", "TABLE", help))
 }
 
 /// A command without arguments: its name, its usage, what it does, and the texts below its short and its long help.

@@ -534,3 +534,55 @@ Exit status:
      43 Socket          there is no socket for ADDRESS:PORT: correct the address
   5  all lines were run, and standard error says `ecat: NUMBER NAME VALUE`:
      45 Unmet COUNT     `unmet` was printed COUNT times: see the lines that it names";
+
+/// The text below the arguments of `ecat scan` in its short help.
+pub(crate) const SCAN_EXAMPLE: &str = "\
+Example: a link table of the slaves on a network card
+  tools/with_card eth0 crates/ecat/out/ecat scan >line.toml
+
+`ecat scan --help` says what is printed, and what is refused.";
+
+/// The text below them in its long help.
+pub(crate) const SCAN_LINES: &str = "\
+It reads the SII of each slave, and by CoE the PDOs that the slave exchanges and their mapping. Where
+the two differ, CoE decides. It prints a link table with `hardware = true`: a type for each different
+device, the slaves in order, and a variable and a link for each entry. Names are made of those in the
+SII. `ecat plan` takes the table, and `ecat master` brings the slaves up by it.
+
+It downloads nothing, moves no process data, and asks no slave for more than PREOP. At the end all are
+asked for INIT. Frames go where those of `ecat master` go.
+
+With `--against` it prints a line for each thing that differs from TABLE:
+  slave S NAME: WHAT
+                  device (vendor and product), revision, serial, other outputs or other inputs; a
+                  revision that TABLE leaves out and a serial number of 0 differ from none
+  slave S NAME: missing
+  slave S: not in the table: VENDOR PRODUCT
+
+Exit status:
+  0  the table is printed, or nothing differs
+  2  the command line isn't valid: correct it as standard error says
+  3  refused, and standard error says `ecat: NUMBER NAME VALUES`:
+     46 Unsaid SLAVE    a table can't say all of this slave. The table is printed, and a comment
+                        above the slave says what it leaves out
+      9 BadMailbox SLAVE
+                        its mailbox held a reply that doesn't fit the request
+     26 Count SEEN      more than 64 slaves are there
+     27 Identity SLAVE ...
+                        its SII can't be read
+     28 Counter FRAME   this frame came back with another working counter: a slave doesn't answer
+     29 AlError SLAVE CODE
+                        it refused PREOP with this AL status code
+     30 Abort SLAVE CODE
+                        it aborted an upload with this code
+     31 TooSlow FRAME   a wait wasn't over after 1000 polls, or a slave took too many frames
+     32 Lost            a frame or its answer was lost: start the segment, and look at the wire
+     20 to 25           the slaves have no plan together, as `ecat plan --help` says
+     11 to 25, 44       with `--against`: TABLE is refused, as there
+      1 Memory          memory ran out: free some and try again
+  4  input, output or a socket is at fault, in the same form:
+     41 Output          the table couldn't be written: see where standard output goes
+     42 Input           TABLE couldn't be read: see whether the file is there
+     43 Socket          there is no socket for ADDRESS:PORT: correct the address
+  5  something differs from TABLE, and standard error says `ecat: NUMBER NAME VALUE`:
+     45 Unmet COUNT     so many lines were printed";

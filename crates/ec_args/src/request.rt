@@ -114,6 +114,18 @@ pub enum Request<'a> {
         /// Whether each line that can't be done, is bad or fails counts as unmet.
         strict: bool,
     },
+    /// Scan the slaves of a segment and print a link table of them, or what differs from the table in a file. The segment is that of
+    /// `Master`.
+    Scan {
+        /// The segment's IPv4 address and UDP port, as they were given.
+        to: &'a str,
+        /// The descriptor of a card's raw socket, 0 to 1023, which replaces the address.
+        descriptor: Option<u16>,
+        /// How many milliseconds it waits for an answer, 1 to 60000.
+        patience: u16,
+        /// The file of the table that the slaves are compared with.
+        against: Option<&'a str>,
+    },
 }
 
 /// On what a segment answers, how many payloads, and as which slaves.
@@ -143,7 +155,10 @@ impl Request<'_> {
         ensures { result ≡ is_explained (command_of self.now) }
     {
         match *self {
-            Request::Pass { .. } | Request::Decode { .. } | Request::Encode => false,
+            Request::Pass { .. }
+            | Request::Decode { .. }
+            | Request::Encode
+            | Request::Scan { .. } => false,
             Request::Plan { explained, .. }
             | Request::Sim { explained, .. }
             | Request::Loop { explained, .. }
@@ -276,6 +291,7 @@ fn read_command<'a>(name: &str, given: &ArgMatches<'a>) -> Option<Request<'a>>
         "loop" => read_loop(given),
         "segment" => read_segment(given),
         "master" => read_master(given),
+        "scan" => read_scan(given),
         _ => None,
     }
 }
@@ -292,6 +308,19 @@ fn read_master<'a>(given: &ArgMatches<'a>) -> Option<Request<'a>>
         capture: given.get_str("capture"),
         explained: given.get_flag("explain"),
         strict: given.get_flag("strict"),
+    })
+}
+
+/// What the arguments of `scan` ask for; `None` if one that it needs is missing.
+fn read_scan<'a>(given: &ArgMatches<'a>) -> Option<Request<'a>>
+    ensures some { IfSome result (IsAskedAs (codes "scan") (rows_of (found_of given.now))) }
+    ensures none { IfNone result (IsNeverAsked (codes "scan") (rows_of (found_of given.now))) }
+{
+    Some(Request::Scan {
+        to: given.get_str("to")?,
+        descriptor: given.get_one::<u16>("descriptor"),
+        patience: given.get_one::<u16>("patience")?,
+        against: given.get_str("against"),
     })
 }
 

@@ -1,6 +1,6 @@
 //! A start-up over a ring of slaves.
 
-ghost use Rattle.std.specs.Prelude.{◌≡◌, ◌≢◌, ◌≤◌, ◌+◌, ◌↔◌, false, true, ℕ, IsTrue, List, length, map};
+ghost use Rattle.std.specs.Prelude.{◌≡◌, ◌≢◌, ◌≤◌, ◌+◌, ◌↔◌, false, true, ℕ, IsTrue, List, map};
 ghost use Rattle.ec_link.specs.declared.settings.SlavePlan.{SlavePlan};
 ghost use Rattle.ec_slave.specs.Serving.{served};
 ghost use Rattle.ec_start.specs.declared.error.StartError.TheVariants.{Lost};

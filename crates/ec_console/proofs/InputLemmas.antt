@@ -74,6 +74,7 @@ refused_unread given (refusal.Script e) fault = absurd fault
 refused_unread given refusal.BadHex fault = absurd fault
 refused_unread given refusal.Output fault = absurd fault
 refused_unread given (refusal.Unmet n) fault = absurd fault
+refused_unread given (refusal.Unsaid n) fault = absurd fault
 
 -- a read that is refused refuses the input
 pub read_refused : (given : Given) (refusal : Refusal) → IsReadRefusal given.is_refused refusal → IsInputRefusal given refusal
@@ -89,6 +90,7 @@ read_refused given (refusal.Script e) fault = absurd fault
 read_refused given refusal.BadHex fault = absurd fault
 read_refused given refusal.Output fault = absurd fault
 read_refused given (refusal.Unmet n) fault = absurd fault
+read_refused given (refusal.Unsaid n) fault = absurd fault
 
 -- and it is one where it gave an error that is neither an interruption nor a want of memory
 pub refused_read : (before now : Bool) (kind : ErrorKind) → now ≡ before || is_refusal kind → kind ≢ Interrupted → false ≡ sameb the_type kind OutOfMemory → now ≡ true

@@ -27,6 +27,7 @@ line_late is_unread output (refusal.Socket trouble) late = absurd late
 line_late is_unread output (refusal.Script e) late = absurd late
 line_late is_unread output refusal.BadHex late = absurd late
 line_late is_unread output (refusal.Unmet n) late = absurd late
+line_late is_unread output (refusal.Unsaid n) late = absurd late
 
 -- a line that isn't taken
 pub unread_late : (is_unread : Bool) (output : OutputState) (error : LinesError) → IsReadFault is_unread error → IsLate is_unread output (lines_refusal error)

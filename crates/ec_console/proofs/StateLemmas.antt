@@ -53,6 +53,7 @@ same_refusal text t u refusal.BadHex read e h = absurd h
 same_refusal text t u refusal.Output read e h = absurd h
 same_refusal text t u refusal.Input read e h = absurd h
 same_refusal text t u (refusal.Unmet n) read e h = absurd h
+same_refusal text t u (refusal.Unsaid n) read e h = absurd h
 
 pub shown_refused : {T : Type 0} (r : Result T Refusal) (form : SlaveForm) (text : List ℕ) (t u : Contents) → table_of text ≡ Ok t → u ≡ advertised_in form t → IfErr r (IsLinkRefusal u)
     → IfErr r (IsTableRefusal text)
@@ -74,6 +75,7 @@ half_of_table form table script refusal.BadHex is = absurd is
 half_of_table form table script refusal.Output is = absurd is
 half_of_table form table script refusal.Input is = absurd is
 half_of_table form table script (refusal.Unmet n) is = absurd is
+half_of_table form table script (refusal.Unsaid n) is = absurd is
 
 -- the table's fault, also where a call passes it on
 pub table_refused : {T : Type 0} (r : Result T Refusal) (form : SlaveForm) (table script : List ℕ) (x : Refusal) → IsErrAnd r (λ e. e ≡ x) → IsTableRefusal table x → IfErr r (RefusesHalves form table script)

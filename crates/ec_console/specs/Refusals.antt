@@ -3,7 +3,7 @@ use Rattle.std.specs.Prelude.{ℕ, ◌==◌, ◌||◌, List, [], ◌∷◌, if�
 use Rattle.ec_text.specs.RefusalText.{RefusalRow, decode_row, frame_row, link_row, plain_row, start_row, table_row, row_line, row_text}
 use Rattle.ec_wire.specs.Errors.{run_number, run_name}
 use Rattle.ec_console.specs.declared.refusal.Refusal.{Refusal}
-use Rattle.ec_console.specs.declared.refusal.Refusal.TheVariants.{Memory, Frame, Table, Link, Start, Run, Socket, Script, BadHex, Output, Input, Unmet}
+use Rattle.ec_console.specs.declared.refusal.Refusal.TheVariants.{Memory, Frame, Table, Link, Start, Run, Socket, Script, BadHex, Output, Input, Unmet, Unsaid}
 
 abbrev pub refusal_row : Refusal → RefusalRow
 refusal_row Memory = plain_row 1 (codes "Memory")
@@ -18,6 +18,7 @@ refusal_row BadHex = plain_row 40 (codes "BadHex")
 refusal_row Output = plain_row 41 (codes "Output")
 refusal_row Input = plain_row 42 (codes "Input")
 refusal_row (Unmet count) = record { number = 45; name = codes "Unmet"; values = count ∷ [] }
+refusal_row (Unsaid slave) = record { number = 46; name = codes "Unsaid"; values = slave ∷ [] }
 
 -- the refusal of a socket, whatever the system said
 abbrev pub IsSocket : Refusal → Type 0

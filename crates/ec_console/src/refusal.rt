@@ -42,6 +42,8 @@ pub enum Refusal {
     Input,
     /// How often what a script expects wasn't so.
     Unmet(u64),
+    /// The first slave that a scan found of which a link table can't say all.
+    Unsaid(usize),
 }
 
 impl Refused for Refusal {
@@ -63,6 +65,7 @@ impl Refused for Refusal {
             Refusal::Output => 41,
             Refusal::Input => 42,
             Refusal::Unmet(_) => 45,
+            Refusal::Unsaid(_) => 46,
         }
     }
 
@@ -81,6 +84,7 @@ impl Refused for Refusal {
             Refusal::Output => "Output",
             Refusal::Input => "Input",
             Refusal::Unmet(_) => "Unmet",
+            Refusal::Unsaid(_) => "Unsaid",
         }
     }
 
@@ -92,6 +96,7 @@ impl Refused for Refusal {
             Refusal::Start(error) => Refused::values(error),
             Refusal::Script(error) => Refused::values(error),
             Refusal::Unmet(count) => listed(&[*count]),
+            Refusal::Unsaid(slave) => listed(&[*slave as u64]),
             Refusal::Memory
             | Refusal::Run(_)
             | Refusal::Socket(_)

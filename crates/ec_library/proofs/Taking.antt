@@ -1,5 +1,5 @@
 -- A payload that the session takes, or that says an AL state; and the first bytes of a frame.
-use Rattle.std.proofs.Common.{◌≡◌, ◌∙◌, ℕ, Bool, true, false, List, ap, length, min, take}
+use Rattle.std.proofs.Common.{◌≡◌, ◌∙◌, ℕ, true, false, List, ap, length, min, take}
 use Rattle.std.proofs.lemmas.List.{take_min}
 use Rattle.ec_cycle.specs.Master.{missing_of}
 use Rattle.ec_session.specs.Sessions.{IsGiven}

@@ -161,6 +161,7 @@ cuts_line s live next before after l old new n line x a b h taken stops one late
     by (refusal.Script e) late = absurd late
     by refusal.BadHex late = absurd late
     by (refusal.Unmet n) late = absurd late
+    by (refusal.Unsaid n) late = absurd late
 
 -- a line that is whole, by what the code has
 pub whole_obeyed : (s : RunState) (live next : LiveState) (before after : OutputState) (l : LinesState) (part kept : List ℕ) (draft drawn : DraftState) (count unmet n more sum : ℕ) (is_open still : Bool) (old new : Option (List ℕ)) (took : NextLine)

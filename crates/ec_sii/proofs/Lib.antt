@@ -10,5 +10,7 @@ pub mod Area
 pub mod ReadBack
 -- every word of a slave's image has 16 bits, and its categories are few enough for the size to fit in one
 pub mod Fits
+-- the reader, step by step
+pub mod Steps
 -- a master that reads the image of a full slave finds its type
 pub mod ReadTypes

@@ -1,7 +1,7 @@
 //! What a master finds by the slave information interface, proved of the definitions that the contracts of this
 //! crate cite. Each function does nothing; its contract is the law, which `specs/Laws.antt` spells out.
 
-ghost use Rattle.ec_sii.specs.Laws.{ImagesSpellIdentities, ImagesSpellMailboxes, ImagesHaveSixtyFourWords, PlainTypesHavePlainImages, CategoriesAreShown, WordsFit, FullTypesAreReadBack, ReadsShowWords, ReadsEndAtTheImage, BusyTakesNoWrite, StatusIsTheWord, CommandsAreTheWords, OthersHaveNoEffect};
+ghost use Rattle.ec_sii.specs.Laws.{ImagesSpellIdentities, ImagesSpellMailboxes, ImagesHaveSixtyFourWords, PlainTypesHavePlainImages, CategoriesAreShown, WordsFit, FullTypesAreReadBack, CategoriesAreRead, ManagersAreRead, PdosAreRead, ReadsShowWords, ReadsEndAtTheImage, BusyTakesNoWrite, StatusIsTheWord, CommandsAreTheWords, OthersHaveNoEffect};
 
 /// The words of an image spell the identity: each number by two words, the low one first.
 #[tactic(auto, unfolding(crate::specs::SiiImage::word_at))]
@@ -39,6 +39,24 @@ pub fn words_fit()
 /// A master that reads the categories of a full slave finds its name, its sync managers and its PDOs.
 pub fn full_types_are_read_back()
     ensures { FullTypesAreReadBack }
+{}
+
+/// The reader of categories, step by step.
+#[tactic(auto, using(crate::proofs::Steps::categories_law))]
+pub fn categories_are_read()
+    ensures { CategoriesAreRead }
+{}
+
+/// The reader of sync managers, step by step.
+#[tactic(auto, using(crate::proofs::Steps::managers_law))]
+pub fn managers_are_read()
+    ensures { ManagersAreRead }
+{}
+
+/// The reader of PDOs and entries, step by step.
+#[tactic(auto, using(crate::proofs::Steps::pdos_law))]
+pub fn pdos_are_read()
+    ensures { PdosAreRead }
 {}
 
 /// A read that is commanded at an idle port shows the two words at its address after the next firmware step.

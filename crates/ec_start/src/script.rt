@@ -2,7 +2,7 @@
 
 ghost use Rattle.std.specs.Prelude.{◌≡◌, ◌≤◌, ◌<◌, true, false, length, All, Option, Some, None, IfSome, get_or, slice_get};
 ghost use Rattle.ec_start.specs.Planned.{HasFewAssigned};
-ghost use Rattle.ec_start.specs.Scripts.{closed, identified, is_hardware, mailbox_set, mapped, named, opened, raised, register_of, set_fmmu, set_manager, settled, talked};
+ghost use Rattle.ec_start.specs.Scripts.{identified, is_hardware, mailbox_set, mapped, named, opened, raised, register_of, set_manager, settled, talked};
 ghost use Rattle.ec_start.specs.Doable.{IsDoable};
 ghost use Rattle.ec_start.specs.Held.{first_step};
 ghost use Rattle.ec_start.specs.Ahead.{share, opening, share_at, for_all, is_for_all, following, behind, manager_chosen, fmmu_chosen, choices, Settles};

@@ -1,9 +1,10 @@
 //! Trials of the libraries that no contract replaces: refused memory, and long runs.
 //!
-//!     ecat_stress                                   the gate's share of the first two
+//!     ecat_stress                                   the gate's share of all but the tables
 //!     ecat_stress memory [FUNCTION]                 the functions that take memory
 //!     ecat_stress runs [SEED [TABLES [EVENTS]]]     worlds under events at random
 //!     ecat_stress tables [SEED [TABLES]]            tables and scripts, and what the calls make of them
+//!     ecat_stress scans [SEED [COUNT]]              scans of slaves that answer at random
 //!
 //! Each prints its figures. The status is 0 if all was as it must be, else 1.
 #![tactic(auto)]
@@ -11,6 +12,7 @@
 mod args;
 mod memory;
 mod runs;
+mod scans;
 mod tables;
 
 use std::alloc::Global;
@@ -29,7 +31,8 @@ fn given_args<H: Env + AllocGlobal>(rt: &H) -> io::Result<Vec<String>> {
 fn run_shares<W: Write>(alloc: Global, output: &mut W) -> io::Result<bool> {
     let memory = memory::run(alloc, None, output)?;
     let runs = runs::run_share(alloc, output)?;
-    Ok(memory && runs)
+    let scans = scans::run_share(alloc, output)?;
+    Ok(memory && runs && scans)
 }
 
 /// The trial of a word, with the arguments from the word on.
@@ -41,6 +44,7 @@ fn run_trial<W: Write>(alloc: Global, args: &[String], output: &mut W) -> io::Re
         "memory" => memory::run(alloc, args.get(1).map(String::as_str), output),
         "runs" => runs::run(alloc, args, output),
         "tables" => tables::run(alloc, args, output),
+        "scans" => scans::run(alloc, args, output),
         _ => {
             writeln!(output, "no such trial")?;
             Ok(false)

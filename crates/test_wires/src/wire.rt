@@ -4,6 +4,7 @@ mod calls;
 mod cycles;
 mod fakes;
 mod machines;
+mod scans;
 mod sizes;
 mod startups;
 mod tables;
@@ -11,6 +12,7 @@ mod tap;
 mod trials;
 
 use self::calls::{expect_calls, expect_memory};
+use self::scans::{expect_lost_scans, expect_scan};
 use self::sizes::expect_size;
 use self::tables::{FULL_TABLE, THREE_SLAVES};
 use self::trials::expect_trials;
@@ -35,6 +37,13 @@ fn three_slaves(rt: HostRuntime) {
 #[test]
 fn many_slaves(rt: HostRuntime) {
     expect_trials(&rt, FULL_TABLE, "faults of many");
+}
+
+// A scan finds full slaves by their SII and their objects, and is lost with a call of its wire.
+#[test]
+fn scanned_slaves(rt: HostRuntime) {
+    expect_scan(&rt, THREE_SLAVES);
+    expect_lost_scans(&rt, THREE_SLAVES);
 }
 
 // There is memory for a wire to each number of slaves, with room for one payload and for thousands.

@@ -2,6 +2,7 @@
 //! that isn't asked for, so those who call these functions carry nothing of it.
 ghost use Rattle.std.specs.Prelude.{◌≡◌};
 ghost use Rattle.ec_link.specs.Plan.{plan_of};
+ghost use Rattle.ec_scan.specs.Lines.{IsFresh};
 
 use crate::rows::expect;
 use ec_bringup::slaves_of_machine;
@@ -26,7 +27,9 @@ pub fn ring_of(rt: &(impl AllocGlobal + Abort), machine: &Machine) -> Ring {
 }
 
 /// A wire over memory, with room for so many payloads, whose call of this number is a fault.
-pub fn wire_to(rt: &(impl AllocGlobal + Abort), ring: Ring, room: usize, call: u64) -> MemoryWire {
+pub fn wire_to(rt: &(impl AllocGlobal + Abort), ring: Ring, room: usize, call: u64) -> MemoryWire
+    ensures { IsFresh result.sent }
+{
     MemoryWire::new(rt.alloc(), ring, room, call).expect(rt, "memory")
 }
 

@@ -6,8 +6,6 @@ use Rattle.ec_start.specs.Running.{StartState, step_of, is_fed, action_of, is_en
 use Rattle.ec_start.proofs.Startups.{action_is, own_action, fed_action}
 use Rattle.ec_start.proofs.startup.Startup.action.Goals as goal
 
--- The names of the goals are a guess: no prover has seen them yet.
-
 pub returns-then-not-is_fed-clause-value : goal.returns-then-not-is_fed-clause-value
 returns-then-not-is_fed-clause-value c =
     let i = c.self.inside in

@@ -1,0 +1,8 @@
+//! `ecat scan`: a link table of the slaves of a segment, or what differs between them and a table.
+#![tactic(auto)]
+
+mod command;
+mod finding;
+
+pub use crate::command::{ScanOptions, run_against, run_scan};
+pub use crate::finding::{Seen, found_all};

@@ -1,0 +1,240 @@
+-- The full slaves of a table are found as its types.
+use Rattle.std.proofs.Common.{ℕ, ◌+◌, ◌≤◌, ◌≡◌, ◌==◌, ◌&&◌, ◌||◌, not, List, [], ◌∷◌, ◌++◌, length, map, filter, Bool, true, false, Option, None, Some, is_some, is_none, unwrap_or, nat_le, nat_lt, slice_index, if◌then◌else◌, refl, ap, ◌∙◌, arith}
+use Rattle.std.specs.Int.{bit_at}
+use Rattle.std.specs.Option.{ForSome, option_map}
+use Rattle.std.proofs.lemmas.Bool.{and_right, eq-eqb, le-leb, le-ltb, ne_eqb}
+use Rattle.ec_device.specs.declared.slave_type.Device.{Device}
+use Rattle.ec_device.specs.declared.slave_type.Face.{Face}
+use Rattle.ec_device.specs.declared.slave_type.Mailbox.{Mailbox}
+use Rattle.ec_device.specs.declared.slave_type.Pdo.{Pdo}
+use Rattle.ec_device.specs.declared.hardware.Hardware.{Hardware}
+use Rattle.ec_device.specs.Hardware.{are_pins, other_name, usual_inputs, usual_outputs}
+use Rattle.ec_device.specs.Types.{ArePdos, SlaveKind, device_of, first_input_index, first_output_index}
+use Rattle.ec_sii.specs.Categories.{coe_details, data_managers, general_flags, mailbox_managers, sii_managers}
+use Rattle.ec_sii.specs.Laws.{FitsKind, ReadsType, found_pdos, general_bytes}
+use Rattle.ec_sii.specs.Reading.{area_read, bytes_of, category_found, managers_read, pdos_read, ReadPdo}
+use Rattle.ec_sii.specs.SiiImage.{image_of}
+use Rattle.ec_sii.proofs.ReadTypes.{types_law}
+use Rattle.ec_scan.specs.declared.shown.Shown.{Shown}
+use Rattle.ec_scan.specs.declared.shown.ShownMailbox.{ShownMailbox}
+use Rattle.ec_scan.specs.Showing.{IsUsable, usable}
+use Rattle.ec_found.specs.declared.areas.Areas.{Areas}
+use Rattle.ec_found.specs.declared.found.Unsaid.{Unsaid}
+use Rattle.ec_found.specs.declared.reading.UsedManager.{UsedManager}
+use Rattle.ec_found.specs.Founds.{all_inputs, all_outputs, areas_of, areas_shown, areas_with, has_lrw, in_used, is_delivered, is_fixed, is_hardware, kept, kind_of, lacks, managers_in, merged, out_used, pdos_in, plain_pdo, unsaid_of, used_for, used_from, usual_areas, words_of}
+use Rattle.ec_found.specs.Laws.{FullTypesAreFound, ShowsType, as_hardware}
+use Rattle.ec_found.proofs.Ended.{category_alike}
+use Rattle.ec_found.proofs.EntryWords.{no_pdos}
+use Rattle.ec_found.proofs.KeptPdos.{kept_same, plain_pdos_same}
+use Rattle.ec_found.proofs.SamePdos.{merged_same}
+
+-- ---- what is read of the categories
+
+from_some : {A : Type 0} (a b : A) → Some a ≡ Some b → a ≡ b
+from_some a b h = cc
+
+some_no : {A P : Type 0} (a : A) → Some a ≡ None → P
+some_no a h = cc
+
+no_some : {A P : Type 0} (a : A) → None ≡ Some a → P
+no_some a h = cc
+
+read_of : {A : Type 0} (f : List ℕ → A) (o : Option (List ℕ)) (a : A) → option_map f o ≡ Some a → f (unwrap_or o []) ≡ a
+read_of f None a h = no_some a h
+read_of f (Some ws) a h = from_some (f ws) a h
+
+-- a category is found as in all words of the image
+found_in : (k : SlaveKind) (s : Shown) (wanted : ℕ) → ShowsType k s → category_found wanted s.categories ≡ category_found wanted (area_read (image_of k s.identity))
+found_in k s wanted h = category_alike wanted s.categories h.categories.0 h.ended ∙ ap (category_found wanted) h.categories.1
+
+all_plain : (all : Bool) (manager : ℕ) (ps : List Pdo) → nat_lt manager 16 ≡ true
+    → map (λ (r : ReadPdo). plain_pdo r.pdo) (filter (λ (r : ReadPdo). all || is_delivered r) (map (λ (q : Pdo). record { manager = manager; pdo = q }) ps)) ≡ map plain_pdo ps
+all_plain all manager [] d = refl
+all_plain true manager (p ∷ ps) d = ap (λ (qs : List Pdo). plain_pdo p ∷ qs) (all_plain true manager ps d)
+all_plain false manager (p ∷ ps) d = rw d (ap (λ (qs : List Pdo). plain_pdo p ∷ qs) (all_plain false manager ps d))
+
+direction : (all : Bool) (manager first : ℕ) (o : Option (List ℕ)) (ps : List Pdo) → nat_lt manager 16 ≡ true → ArePdos first ps
+    → option_map pdos_read o ≡ found_pdos manager ps → pdos_in all (unwrap_or o []) ≡ ps
+direction all manager first None [] d limits h =
+    ap (λ (rs : List ReadPdo). map (λ (r : ReadPdo). plain_pdo r.pdo) (filter (λ (r : ReadPdo). all || is_delivered r) rs)) (no_pdos [] (omega arith))
+direction all manager first None (p ∷ ps) d limits h = no_some _ h
+direction all manager first (Some ws) [] d limits h = some_no _ h
+direction all manager first (Some ws) (p ∷ ps) d limits h =
+    ap (λ (rs : List ReadPdo). map (λ (r : ReadPdo). plain_pdo r.pdo) (filter (λ (r : ReadPdo). all || is_delivered r) rs)) (from_some _ _ h)
+    ∙ all_plain all manager (p ∷ ps) d
+    ∙ plain_pdos_same first (p ∷ ps) limits.each
+
+-- ---- the mailbox
+
+usable_there : (m : Mailbox) → IsUsable m → usable (record { place = m; protocols = 4 }) ≡ Some m
+usable_there m u =
+    let sizes = u.sizes in
+    let some : (m.receive_size == 0) ≡ false = ne_zero m.receive_size sizes.receive_some in
+    let a : nat_le 16 m.receive_size ≡ true = le-leb 16 m.receive_size sizes.receive_some in
+    let b : nat_le m.receive_size 1024 ≡ true = le-leb m.receive_size 1024 sizes.receive_few in
+    let c : nat_le 16 m.send_size ≡ true = le-leb 16 m.send_size sizes.send_some in
+    let d : nat_le m.send_size 1024 ≡ true = le-leb m.send_size 1024 sizes.send_few in
+    let e : nat_le 0x1000 m.receive_start ≡ true = le-leb 0x1000 m.receive_start u.receive in
+    let f : nat_le (m.receive_start + m.receive_size) 65536 ≡ true = le-leb (m.receive_start + m.receive_size) 65536 u.receive_end in
+    let g : nat_le 0x1000 m.send_start ≡ true = le-leb 0x1000 m.send_start u.send in
+    let h : nat_le (m.send_start + m.send_size) 65536 ≡ true = le-leb (m.send_start + m.send_size) 65536 u.send_end in
+    rw (some, a, b, c, d, e, f, g, h) refl
+  where
+    ne_zero : (n : ℕ) → 16 ≤ n → (n == 0) ≡ false
+    ne_zero n l = ne_eqb n 0 (λ e. omega (arith, e, l))
+
+no_mailbox_used : (m : ShownMailbox) → m.place.receive_size ≡ 0 → usable m ≡ None
+no_mailbox_used m e =
+    let z : (m.place.receive_size == 0) ≡ true = eq-eqb m.place.receive_size 0 e in
+    rw z refl
+
+mailbox_found : (k : SlaveKind) (s : Shown) → ForSome k.mailbox IsUsable → ShowsType k s → usable s.mailbox ≡ k.mailbox
+mailbox_found k s u h = by k.mailbox refl
+  where
+    by : (o : Option Mailbox) → k.mailbox ≡ o → usable s.mailbox ≡ o
+    by None e = no_mailbox_used s.mailbox (h.no_mailbox e)
+    by (Some m) e =
+        let both = h.mailbox m e in
+        ap (λ (p : Mailbox). usable (record { place = p; protocols = s.mailbox.protocols })) both.0
+        ∙ ap (λ (n : ℕ). usable (record { place = m; protocols = n })) both.1
+        ∙ usable_there m (u m e)
+
+-- ---- the sync managers
+
+abbrev used : (number start control : ℕ) → UsedManager
+used number start control = record { number = number; start = start; control = control }
+
+outs_used : (k : SlaveKind) (m : Option Mailbox) → used_from 3 0 (map (λ x. record { usage = x.usage; start = x.settings.start; control = x.settings.control }) (mailbox_managers m ++ data_managers k)) ≡ Some (used 2 k.out_start 0x24)
+outs_used k None = refl
+outs_used k (Some m) = refl
+
+ins_used : (k : SlaveKind) (m : Option Mailbox) → used_from 4 0 (map (λ x. record { usage = x.usage; start = x.settings.start; control = x.settings.control }) (mailbox_managers m ++ data_managers k)) ≡ Some (used 3 k.in_start 0x20)
+ins_used k None = refl
+ins_used k (Some m) = refl
+
+outs_of : (k : SlaveKind) (ws : List ℕ) → managers_read ws ≡ sii_managers k → used_from 3 0 (managers_in ws) ≡ Some (used 2 k.out_start 0x24)
+outs_of k ws e = rw e (outs_used k k.mailbox)
+
+ins_of : (k : SlaveKind) (ws : List ℕ) → managers_read ws ≡ sii_managers k → used_from 4 0 (managers_in ws) ≡ Some (used 3 k.in_start 0x20)
+ins_of k ws e = rw e (ins_used k k.mailbox)
+
+abbrev full_hardware : Bool → Hardware
+full_hardware pins = record { out_manager = usual_outputs; in_manager = usual_inputs; has_pins = pins; has_firmware = true; fmmus = 4; any_revision = false }
+
+abbrev full_areas : SlaveKind → Bool → Areas
+full_areas k pins = record { out_start = k.out_start; in_start = k.in_start; hardware = full_hardware pins }
+
+areas_alike : (k : SlaveKind) (s : Shown) → managers_read (words_of 41 s) ≡ sii_managers k → s.has_firmware ≡ true → are_pins k.out_start ≡ false → areas_shown s ≡ full_areas k false
+areas_alike k s managers firmware no_pins =
+    ap (λ (o : Option UsedManager). areas_with (out_used o (used_for 4 s)) (in_used o (used_for 4 s)) s.has_firmware) (outs_of k (words_of 41 s) managers)
+    ∙ ap (λ (i : Option UsedManager). areas_with (out_used (Some (used 2 k.out_start 0x24)) i) (in_used (Some (used 2 k.out_start 0x24)) i) s.has_firmware) (ins_of k (words_of 41 s) managers)
+    ∙ ap (areas_with (used 2 k.out_start 0x24) (used 3 k.in_start 0x20)) firmware
+    ∙ ap (full_areas k) no_pins
+
+full_said : (o : Option Mailbox) → is_hardware o (full_hardware false) ≡ true
+full_said None = refl
+full_said (Some m) = refl
+
+-- ---- all of it
+
+abbrev made : Device → Option Mailbox → Areas → List Pdo → List Pdo → Bool → SlaveKind
+made device mailbox areas outputs inputs lrw = record {
+  device = device;
+  mailbox = mailbox;
+  out_start = other_name (Some areas.hardware) areas.out_start;
+  in_start = areas.in_start;
+  outputs = outputs;
+  inputs = inputs;
+  lrw = lrw;
+  face = None;
+  hardware = Some areas.hardware;
+}
+
+alike : (f : Device → Option Mailbox → Areas → List Pdo → List Pdo → Bool → SlaveKind)
+    (d d2 : Device) (m m2 : Option Mailbox) (a a2 : Areas) (os os2 is is2 : List Pdo) (l l2 : Bool)
+    → d ≡ d2 → m ≡ m2 → a ≡ a2 → os ≡ os2 → is ≡ is2 → l ≡ l2 → f d m a os is l ≡ f d2 m2 a2 os2 is2 l2
+alike f d d2 m m2 a a2 os os2 is is2 l l2 e1 e2 e3 e4 e5 e6 = cc
+
+flag_back : (b : Bool) → not (bit_at (general_flags b) 1 == 1) ≡ b
+flag_back true = refl
+flag_back false = refl
+
+-- what a slave is found by
+record IsRead (k : SlaveKind) (s : Shown) : Type 0 where
+  pub mailbox : usable s.mailbox ≡ k.mailbox
+  pub shown : areas_shown s ≡ full_areas k false
+  pub said : is_hardware (usable s.mailbox) (areas_shown s).hardware ≡ true
+  pub outputs : all_outputs s ≡ k.outputs
+  pub inputs : all_inputs s ≡ k.inputs
+  pub general : bytes_of (words_of 30 s) ≡ general_bytes k
+
+read_all : (k : SlaveKind) (face : Face) (s : Shown) → FitsKind k → k.face ≡ Some face → ForSome k.mailbox IsUsable → are_pins k.out_start ≡ false → ShowsType k s → IsRead k s
+read_all k face s fits is_face used no_pins shows =
+    let back : ReadsType k face.name (area_read (image_of k s.identity)) = (types_law k s.identity face fits is_face).1 in
+    let mailbox : usable s.mailbox ≡ k.mailbox = mailbox_found k s used shows in
+    let managers : managers_read (words_of 41 s) ≡ sii_managers k =
+    read_of managers_read (category_found 41 s.categories) (sii_managers k) (ap (option_map managers_read) (found_in k s 41 shows) ∙ back.managers) in
+    let shown : areas_shown s ≡ full_areas k false = areas_alike k s managers shows.firmware no_pins in
+    let outs : pdos_in (is_some s.outputs) (words_of 51 s) ≡ k.outputs =
+    direction (is_some s.outputs) 2 first_output_index (category_found 51 s.categories) k.outputs refl fits.limits.outputs
+    (ap (option_map pdos_read) (found_in k s 51 shows) ∙ back.outputs) in
+    let ins : pdos_in (is_some s.inputs) (words_of 50 s) ≡ k.inputs =
+    direction (is_some s.inputs) 3 first_input_index (category_found 50 s.categories) k.inputs refl fits.limits.inputs
+    (ap (option_map pdos_read) (found_in k s 50 shows) ∙ back.inputs) in
+    record {
+      mailbox = mailbox;
+      shown = shown;
+      said = ap (λ (o : Option Mailbox). is_hardware o (areas_shown s).hardware) mailbox ∙ ap (λ (a : Areas). is_hardware k.mailbox a.hardware) shown ∙ full_said k.mailbox;
+      outputs = ap (λ (ps : List Pdo). merged ps s.outputs) outs ∙ merged_same k.outputs s.outputs fits.limits.outputs.apart fits.limits.outputs.few shows.outputs;
+      inputs = ap (λ (ps : List Pdo). merged ps s.inputs) ins ∙ merged_same k.inputs s.inputs fits.limits.inputs.apart fits.limits.inputs.few shows.inputs;
+      general = read_of bytes_of (category_found 30 s.categories) (general_bytes k) (ap (option_map bytes_of) (found_in k s 30 shows) ∙ back.general);
+    }
+
+same_kind : (k : SlaveKind) (s : Shown) → FitsKind k → device_of s.identity ≡ k.device → IsRead k s → kind_of s ≡ as_hardware k
+same_kind k s fits device r =
+    alike made (device_of s.identity) k.device (usable s.mailbox) k.mailbox (areas_of s) (full_areas k false)
+    (kept first_output_index (all_outputs s)) k.outputs (kept first_input_index (all_inputs s)) k.inputs (has_lrw s) k.lrw
+    device r.mailbox
+    (ap (λ (b : Bool). if b then areas_shown s else usual_areas (areas_shown s)) r.said ∙ r.shown)
+    (ap (kept first_output_index) r.outputs ∙ kept_same first_output_index k.outputs fits.limits.outputs)
+    (ap (kept first_input_index) r.inputs ∙ kept_same first_input_index k.inputs fits.limits.inputs)
+    (ap (λ (bs : List ℕ). not (bit_at (slice_index bs 11) 1 == 1)) r.general ∙ flag_back k.lrw)
+
+-- ---- nothing is left unsaid
+
+unsaid_none : (a b c d e : Bool) (v w x y z : Unsaid) → a ≡ false → b ≡ false → c ≡ false → d ≡ false → e ≡ false
+    → (if a then Some v else (if b then Some w else (if c then Some x else (if d then Some y else (if e then Some z else None))))) ≡ None
+unsaid_none a b c d e v w x y z p q r s t = rw (p, q, r, s, t) refl
+
+lacks_none : (first : ℕ) (ps qs : List Pdo) → ps ≡ qs → ArePdos first qs → lacks first ps ≡ false
+lacks_none first ps qs e limits =
+    ap (lacks first) e
+    ∙ ap (λ (xs : List Pdo). nat_lt (length xs) (length qs)) (kept_same first qs limits)
+    ∙ le-ltb (length qs) (length qs) (omega arith)
+
+nothing_unsaid : (k : SlaveKind) (s : Shown) → FitsKind k → ShowsType k s → IsRead k s → unsaid_of s ≡ None
+nothing_unsaid k s fits shows r =
+    unsaid_none (not (s.mailbox.place.receive_size == 0) && is_none (usable s.mailbox)) (not (is_hardware (usable s.mailbox) (areas_shown s).hardware))
+    (lacks first_output_index (all_outputs s)) (lacks first_input_index (all_inputs s)) (is_some (usable s.mailbox) && is_fixed s) _ _ _ _ _
+    (mailboxes k.mailbox refl) (ap not r.said)
+    (lacks_none first_output_index (all_outputs s) k.outputs r.outputs fits.limits.outputs)
+    (lacks_none first_input_index (all_inputs s) k.inputs r.inputs fits.limits.inputs)
+    (assignment k.mailbox refl)
+  where
+    mailboxes : (o : Option Mailbox) → k.mailbox ≡ o → (not (s.mailbox.place.receive_size == 0) && is_none (usable s.mailbox)) ≡ false
+    mailboxes None e =
+        let z : (s.mailbox.place.receive_size == 0) ≡ true = eq-eqb s.mailbox.place.receive_size 0 (shows.no_mailbox e) in
+        ap (λ (b : Bool). not b && is_none (usable s.mailbox)) z
+    mailboxes (Some m) e = and_right (not (s.mailbox.place.receive_size == 0)) (is_none (usable s.mailbox)) (ap (λ (o : Option Mailbox). is_none o) (r.mailbox ∙ e))
+
+    assignment : (o : Option Mailbox) → k.mailbox ≡ o → (is_some (usable s.mailbox) && is_fixed s) ≡ false
+    assignment None e = ap (λ (o : Option Mailbox). is_some o && is_fixed s) (r.mailbox ∙ e)
+    assignment (Some m) e =
+        let byte : slice_index (bytes_of (words_of 30 s)) 5 ≡ 5 = ap (λ (bs : List ℕ). slice_index bs 5) r.general ∙ ap coe_details e in
+        and_right (is_some (usable s.mailbox)) (is_fixed s)
+        (and_right (is_some (category_found 30 s.categories)) (not (bit_at (slice_index (bytes_of (words_of 30 s)) 5) 2 == 1)) (ap (λ (n : ℕ). not (bit_at n 2 == 1)) byte))
+
+pub full_types_are_found : FullTypesAreFound
+full_types_are_found k face s fits is_face plain usable no_pins shows =
+    let r : IsRead k s = read_all k face s fits is_face usable no_pins shows in
+    (same_kind k s fits shows.identity r, nothing_unsaid k s fits shows r)

@@ -1,0 +1,13 @@
+mod Steps
+mod Ended
+mod EntryWords
+mod FirstWords
+mod Flags
+mod HardwareLimits
+mod KeptPdos
+mod SamePdos
+mod SameTypes
+mod Stated
+mod WordBytes
+mod FullTypes
+mod SameSlaves

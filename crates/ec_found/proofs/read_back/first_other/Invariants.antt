@@ -1,0 +1,5 @@
+use Rattle.ec_found.proofs.Stated.{AreRows}
+use Rattle.ec_found.proofs.read_back.first_other.Given as goal
+
+abbrev pub invariant-loop-place : goal.invariant-loop-place
+invariant-loop-place l = AreRows l.table l.found l.place

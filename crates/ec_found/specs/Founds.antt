@@ -1,0 +1,222 @@
+-- Which type a slave is, by what it shows, and what a table can't say of it (ETG.1000.6, "Slave information interface area", "Sync manager
+-- PDO assignment"). Where the SII and CoE differ, CoE decides.
+use Rattle.std.specs.Prelude.{◌≡◌, ℕ, ◌+◌, ◌/◌, ◌%◌, ◌==◌, ◌&&◌, ◌||◌, not, List, [], ◌∷◌, ◌++◌, length, map, filter, Bool, true, false, nat_le, nat_lt, if◌then◌else◌, slice_index, Option, Some, None, is_some, is_none, unwrap_or}
+use Rattle.std.specs.Int.{bit_at}
+use Rattle.std.specs.List.{list_all}
+use Rattle.ec_device.specs.declared.slave_type.Entry.{Entry}
+use Rattle.ec_device.specs.declared.slave_type.Pdo.{Pdo}
+use Rattle.ec_device.specs.declared.slave_type.Mailbox.{Mailbox}
+use Rattle.ec_device.specs.declared.hardware.Hardware.{Hardware}
+use Rattle.ec_device.specs.declared.hardware.ProcessManager.{ProcessManager}
+use Rattle.ec_device.specs.Hardware.{are_pins, other_name}
+use Rattle.ec_device.specs.Objects.{pdo_at}
+use Rattle.ec_device.specs.Types.{SlaveKind, device_of, first_input_index, first_output_index}
+use Rattle.ec_sii.specs.Reading.{bytes_of, category_found, managers_read, pdos_read, ReadPdo}
+use Rattle.ec_scan.specs.declared.shown.Shown.{Shown}
+use Rattle.ec_scan.specs.Showing.{usable}
+use Rattle.ec_found.specs.declared.areas.Areas.{Areas}
+use Rattle.ec_found.specs.declared.reading.UsedManager.{UsedManager}
+use Rattle.ec_found.specs.declared.found.Unsaid.{Unsaid}
+use Rattle.ec_found.specs.declared.found.Unsaid.TheVariants as unsaid
+use Rattle.ec_found.specs.declared.found.Found.{Found}
+
+-- ---- categories
+
+-- the words of a category, none if it isn't there
+abbrev pub words_of : ℕ → Shown → List ℕ
+words_of number s = unwrap_or (category_found number s.categories) []
+
+-- a byte of words, 0 behind them
+abbrev pub byte_in : List ℕ → ℕ → ℕ
+byte_in words k = slice_index (bytes_of words) k
+
+-- ---- sync managers
+
+-- what a sync manager is used for, where its bytes begin, and its control byte
+pub record ShownManager : Type 0 where
+  pub usage : ℕ
+  pub start : ℕ
+  pub control : ℕ
+
+abbrev pub managers_in : List ℕ → List ShownManager
+managers_in words = map (λ m. record { usage = m.usage; start = m.settings.start; control = m.settings.control }) (managers_read words)
+
+-- the first that has a use, of at most 16
+abbrev pub used_from : (usage number : ℕ) → List ShownManager → Option UsedManager
+used_from usage number [] = None
+used_from usage number (m ∷ ms) =
+    if nat_le 16 number then None
+    else (if m.usage == usage then Some (record { number = number; start = m.start; control = m.control })
+    else used_from usage (number + 1) ms)
+
+-- usages 3 and 4 are the process data, outputs and inputs
+abbrev pub used_for : ℕ → Shown → Option UsedManager
+used_for usage s = used_from usage 0 (managers_in (words_of 41 s))
+
+-- a direction without process data has one that nobody uses: 2 for outputs and 3 for inputs, or the other if that is taken
+abbrev pub manager_at : (start number control : ℕ) → UsedManager
+manager_at start number control = record { number = number; start = start; control = control }
+
+abbrev pub unused : ℕ → ℕ → UsedManager
+unused number control = manager_at 0 number control
+
+abbrev pub out_used : Option UsedManager → Option UsedManager → UsedManager
+out_used (Some m) inputs = m
+out_used None None = unused 2 0x24
+out_used None (Some m) = if m.number == 2 then unused 3 0x24 else unused 2 0x24
+
+abbrev pub in_used : Option UsedManager → Option UsedManager → UsedManager
+in_used outputs (Some m) = m
+in_used None None = unused 3 0x20
+in_used (Some m) None = if m.number == 3 then unused 2 0x20 else unused 3 0x20
+
+abbrev pub process_manager : UsedManager → ProcessManager
+process_manager m = record { number = m.number; control = m.control }
+
+abbrev pub hardware_with : (outs ins : UsedManager) → Bool → Hardware
+hardware_with outs ins has_firmware = record {
+  out_manager = process_manager outs;
+  in_manager = process_manager ins;
+  has_pins = are_pins outs.start;
+  has_firmware = has_firmware;
+  fmmus = 4;
+  any_revision = false;
+}
+
+abbrev pub areas_with : (outs ins : UsedManager) → Bool → Areas
+areas_with outs ins has_firmware = record { out_start = outs.start; in_start = ins.start; hardware = hardware_with outs ins has_firmware }
+
+-- as it shows them
+abbrev pub areas_shown : Shown → Areas
+areas_shown s = areas_with (out_used (used_for 3 s) (used_for 4 s)) (in_used (used_for 3 s) (used_for 4 s)) s.has_firmware
+
+-- where they are, by the usual managers: of a slave whose own a table can't say
+abbrev pub usual_areas : Areas → Areas
+usual_areas a = areas_with (manager_at a.out_start 2 0x24) (manager_at a.in_start 3 0x20) true
+
+-- a table can say it: two different managers of the first four, in the modes of their directions; a mailbox has the first two, and firmware
+abbrev pub is_hardware : Option Mailbox → Hardware → Bool
+is_hardware mailbox h =
+    (nat_le h.out_manager.number 3 && nat_le h.in_manager.number 3)
+    && (not (h.out_manager.number == h.in_manager.number)
+    && (((h.out_manager.control % 16 == 4) && (h.in_manager.control % 16 == 0))
+    && (is_none mailbox || (nat_le 2 h.out_manager.number && (nat_le 2 h.in_manager.number && h.has_firmware)))))
+
+abbrev pub areas_of : Shown → Areas
+areas_of s = if is_hardware (usable s.mailbox) (areas_shown s).hardware then areas_shown s else usual_areas (areas_shown s)
+
+-- ---- PDOs
+
+-- an entry without bits is left out, and a gap has no subindex
+abbrev pub plain_entry : Entry → Entry
+plain_entry e = if e.index == 0 then record e { subindex = 0 } else e
+
+abbrev pub plain_entries : List Entry → List Entry
+plain_entries es = map plain_entry (filter (λ (e : Entry). not (e.bits == 0)) es)
+
+abbrev pub plain_pdo : Pdo → Pdo
+plain_pdo p = record p { entries = plain_entries p.entries }
+
+-- the entries in words, four each
+abbrev pub entries_of : List ℕ → List Entry
+entries_of (index ∷ subindex ∷ bits ∷ flags ∷ words) = record { index = index; subindex = subindex % 256; bits = bits / 256 } ∷ entries_of words
+entries_of _ = []
+
+-- Those in the words of a category: all of them, or those that the slave exchanges as delivered, which have a sync manager. (A controller
+-- has at most 16 of these; 0xFF is none.)
+abbrev pub is_delivered : ReadPdo → Bool
+is_delivered r = nat_lt r.manager 16
+
+abbrev pub pdos_in : (all : Bool) → List ℕ → List Pdo
+pdos_in all words = map (λ (r : ReadPdo). plain_pdo r.pdo) (filter (λ (r : ReadPdo). all || is_delivered r) (pdos_read words))
+
+abbrev pub has_index : List Pdo → ℕ → Bool
+has_index ps index = is_some (pdo_at ps index)
+
+-- those of the SII, each with the mapping that CoE has of it; and behind them those that CoE has besides
+abbrev pub joined : List Pdo → List Pdo → List Pdo
+joined ps qs = map (λ (p : Pdo). unwrap_or (pdo_at qs p.index) p) ps ++ filter (λ (q : Pdo). not (has_index ps q.index)) qs
+
+-- the same PDOs, but those that CoE has come first
+abbrev pub exchanged_first : List Pdo → List Pdo → List Pdo
+exchanged_first ps qs = qs ++ filter (λ (p : Pdo). not (has_index qs p.index)) ps
+
+-- all PDOs in the order of the SII; if they are more than a table takes, those that are exchanged come first
+abbrev pub merged : List Pdo → Option (List Pdo) → List Pdo
+merged ps None = ps
+merged ps (Some qs) = if nat_le (length (joined ps qs)) 16 then joined ps qs else exchanged_first ps qs
+
+-- a table takes a PDO: it is within the limits, and fewer than 16 others, each with another index, stand before it
+abbrev pub is_entry : Entry → Bool
+is_entry e = (nat_le 1 e.bits && nat_le e.bits 64) && (not (e.index == 0) || (e.subindex == 0))
+
+abbrev pub is_pdo : ℕ → Pdo → Bool
+is_pdo first p = (nat_le first p.index && nat_lt p.index (first + 512)) && (nat_le (length p.entries) 64 && list_all is_entry p.entries)
+
+abbrev pub takes : ℕ → List Pdo → Pdo → Bool
+takes first found p = nat_lt (length found) 16 && (is_pdo first p && not (has_index found p.index))
+
+abbrev pub kept_behind : ℕ → List Pdo → List Pdo → List Pdo
+kept_behind first found [] = found
+kept_behind first found (p ∷ ps) = if takes first found p then kept_behind first (found ++ p ∷ []) ps else kept_behind first found ps
+
+abbrev pub kept : ℕ → List Pdo → List Pdo
+kept first ps = kept_behind first [] ps
+
+abbrev pub indices : List Pdo → List ℕ
+indices ps = map (λ (p : Pdo). p.index) ps
+
+-- which of its type's PDOs a slave exchanges: all, unless CoE says which
+abbrev pub assigned_of : ℕ → List Pdo → Option (List Pdo) → List ℕ
+assigned_of first ps None = indices ps
+assigned_of first ps (Some qs) = filter (has_index ps) (indices (kept first qs))
+
+-- TxPDOs (category 50) are inputs, RxPDOs (51) outputs. If CoE doesn't say which are exchanged, they are those that are as delivered.
+abbrev pub all_outputs : Shown → List Pdo
+all_outputs s = merged (pdos_in (is_some s.outputs) (words_of 51 s)) s.outputs
+
+abbrev pub all_inputs : Shown → List Pdo
+all_inputs s = merged (pdos_in (is_some s.inputs) (words_of 50 s)) s.inputs
+
+-- ---- the type
+
+-- the general category: byte 11, bit 1 says that it takes no part in LRW; byte 5, bit 2 says that its PDO assignment can be written
+abbrev pub has_lrw : Shown → Bool
+has_lrw s = not (bit_at (byte_in (words_of 30 s) 11) 1 == 1)
+
+abbrev pub is_fixed : Shown → Bool
+is_fixed s = is_some (category_found 30 s.categories) && not (bit_at (byte_in (words_of 30 s) 5) 2 == 1)
+
+abbrev pub kind_of : Shown → SlaveKind
+kind_of s = record {
+  device = device_of s.identity;
+  mailbox = usable s.mailbox;
+  out_start = other_name (Some (areas_of s).hardware) (areas_of s).out_start;
+  in_start = (areas_of s).in_start;
+  outputs = kept first_output_index (all_outputs s);
+  inputs = kept first_input_index (all_inputs s);
+  lrw = has_lrw s;
+  face = None;
+  hardware = Some (areas_of s).hardware;
+}
+
+-- The first thing that a table can't say of a slave: its mailbox, its sync managers, PDOs that were left out, or that its assignment can't
+-- be written.
+abbrev pub lacks : ℕ → List Pdo → Bool
+lacks first ps = nat_lt (length (kept first ps)) (length ps)
+
+abbrev pub unsaid_of : Shown → Option Unsaid
+unsaid_of s =
+    if not (s.mailbox.place.receive_size == 0) && is_none (usable s.mailbox) then Some unsaid.Mailbox
+    else (if not (is_hardware (usable s.mailbox) (areas_shown s).hardware) then Some unsaid.Managers
+    else (if lacks first_output_index (all_outputs s) then Some unsaid.Outputs
+    else (if lacks first_input_index (all_inputs s) then Some unsaid.Inputs
+    else (if is_some (usable s.mailbox) && is_fixed s then Some unsaid.Assignment else None))))
+
+-- what is found of a slave
+pub record IsFound (s : Shown) (f : Found) : Type 0 where
+  pub kind : f.kind ≡ kind_of s
+  pub serial : f.serial ≡ s.identity.serial
+  pub outputs : f.outputs ≡ assigned_of first_output_index (kind_of s).outputs s.outputs
+  pub inputs : f.inputs ≡ assigned_of first_input_index (kind_of s).inputs s.inputs
+  pub unsaid : f.unsaid ≡ unsaid_of s

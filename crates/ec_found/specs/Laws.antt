@@ -1,0 +1,46 @@
+-- The slaves of a table are found as its types.
+use Rattle.std.specs.Prelude.{◌≡◌, ◌==◌, ℕ, zero, suc, List, ◌++◌, ◌∷◌, All, Contains, Bool, false, true, if◌then◌else◌, Some, None}
+use Rattle.std.specs.Option.{ForSome}
+use Rattle.ec_device.specs.declared.slave_type.Face.{Face}
+use Rattle.ec_device.specs.declared.slave_type.Mailbox.{Mailbox}
+use Rattle.ec_device.specs.Hardware.{are_pins, usual_inputs, usual_outputs}
+use Rattle.ec_device.specs.Types.{SlaveKind, device_of}
+use Rattle.ec_sii.specs.Laws.{FitsKind}
+use Rattle.ec_sii.specs.Reading.{area_read}
+use Rattle.ec_sii.specs.SiiImage.{image_of}
+use Rattle.ec_scan.specs.declared.shown.Shown.{Shown}
+use Rattle.ec_scan.specs.Showing.{IsUsable}
+use Rattle.ec_found.specs.Founds.{kind_of, unsaid_of}
+
+-- a type as a table with `hardware` has it: the usual managers, firmware and four FMMUs
+abbrev pub as_hardware : SlaveKind → SlaveKind
+as_hardware k = record k {
+  face = None;
+  hardware = Some (record { out_manager = usual_outputs; in_manager = usual_inputs; has_pins = false; has_firmware = true; fmmus = 4; any_revision = false });
+}
+
+-- words reach the end mark: first so many are passed over
+abbrev pub is_ended : (passed : ℕ) → List ℕ → Bool
+is_ended zero (number ∷ count ∷ words) = if number == 0xFFFF then true else is_ended count words
+is_ended (suc passed) (word ∷ words) = is_ended passed words
+is_ended _ _ = false
+
+-- What a full slave of a type shows: by CoE it says the PDOs of its type that it exchanges, or nothing.
+pub record ShowsType (k : SlaveKind) (s : Shown) : Type 0 where
+  pub identity : device_of s.identity ≡ k.device
+  pub mailbox : (m : Mailbox) → k.mailbox ≡ Some m → (s.mailbox.place ≡ m) × (s.mailbox.protocols ≡ 4)
+  pub no_mailbox : k.mailbox ≡ None → s.mailbox.place.receive_size ≡ 0
+  pub firmware : s.has_firmware ≡ true
+  -- the words from 0x40 on, as far as the end mark
+  pub categories : (rest : List ℕ) × (s.categories ++ rest ≡ area_read (image_of k s.identity))
+  pub ended : is_ended 0 s.categories ≡ true
+  pub outputs : ForSome s.outputs (All (Contains k.outputs))
+  pub inputs : ForSome s.inputs (All (Contains k.inputs))
+
+-- It is found as its type, and a table can say all of it. (Its mailboxes lie in the RAM, and its outputs are no pins, as in each table that
+-- has a plan.)
+abbrev pub FullTypesAreFound : Type 0
+FullTypesAreFound =
+    (k : SlaveKind) (face : Face) (s : Shown) → FitsKind k → k.face ≡ Some face → k.hardware ≡ None
+    → ForSome k.mailbox IsUsable → are_pins k.out_start ≡ false → ShowsType k s
+    → (kind_of s ≡ as_hardware k) × (unsaid_of s ≡ None)

@@ -1,0 +1,220 @@
+//! What differs between the slaves that were found and those of a table.
+ghost use Rattle.std.specs.Prelude.{◌≡◌, ◌<◌, ◌++◌, length, IfOk, OnOk};
+ghost use Rattle.ec_device.specs.Hardware.{takes_any_revision};
+ghost use Rattle.ec_device.specs.Objects.{assigned_entries};
+ghost use Rattle.ec_found.specs.Differing.{agrees, differ, differs, is_none, is_same, started};
+
+use crate::found::Found;
+use crate::same::have_same_entries;
+use ec_coe::find_pdo;
+use ec_device::{Device, Entry, Pdo, SlaveType};
+use ec_listed::Listed;
+use ec_table::{SlaveRow, Table};
+use std::alloc::{AllocError, Global};
+use std::fmt::Write as _;
+
+/// What differs of a slave.
+#[derive(Clone, Copy, Debug, PartialEq, Eq)]
+pub struct Differences {
+    /// Vendor or product.
+    pub device: bool,
+    /// The revision, if the table has one.
+    pub revision: bool,
+    /// The serial number, if the table has one.
+    pub serial: bool,
+    /// The output PDOs that it exchanges once it was started up by the table, or their mapping.
+    pub outputs: bool,
+    /// The input PDOs.
+    pub inputs: bool,
+}
+
+impl Differences {
+    /// Whether nothing differs.
+    pub fn is_none(&self) -> bool
+        ensures { result ≡ is_none self.now }
+    {
+        !(self.device || self.revision || self.serial || self.outputs || self.inputs)
+    }
+}
+
+/// What differs between a slave of a table, which has a type and a row, and the one that was found in its place.
+pub fn differs(
+    alloc: Global,
+    kind: &SlaveType,
+    row: &SlaveRow,
+    found: &Found,
+) -> Result<Differences, AllocError>
+    ensures { IfOk result (λ d. d ≡ differs kind.now row.now found.now) }
+{
+    let (wanted, seen) = (kind.device(), found.kind.device());
+    let (outputs, inputs) = (row.outputs.as_slice(), row.inputs.as_slice());
+    let outputs_then = started(kind, kind.outputs(), outputs, found.outputs.as_slice());
+    let inputs_then = started(kind, kind.inputs(), inputs, found.inputs.as_slice());
+    Ok(Differences {
+        device: wanted.vendor != seen.vendor || wanted.product != seen.product,
+        revision: !takes_any_revision(kind) && wanted.revision != seen.revision,
+        serial: row.serial != 0 && row.serial != found.serial,
+        outputs: differ(
+            alloc,
+            (kind.outputs(), found.kind.outputs()),
+            (outputs, outputs_then),
+        )?,
+        inputs: differ(
+            alloc,
+            (kind.inputs(), found.kind.inputs()),
+            (inputs, inputs_then),
+        )?,
+    })
+}
+
+/// What a slave exchanges in a direction once it was started up by a row: what the row assigns, if the type has PDOs that can be
+/// assigned, else what it exchanges now.
+fn started<'a>(kind: &SlaveType, pdos: &[Pdo], assigned: &'a [u16], found: &'a [u16]) -> &'a [u16]
+    ensures { result.now ≡ started kind.now pdos.now assigned.now found.now }
+{
+    if kind.mailbox().is_some() && !pdos.is_empty() {
+        assigned
+    } else {
+        found
+    }
+}
+
+fn takes_any_revision(kind: &SlaveType) -> bool
+    ensures { result ≡ takes_any_revision kind.now.hardware }
+{
+    match kind.hardware() {
+        Some(hardware) => hardware.any_revision,
+        None => false,
+    }
+}
+
+/// Whether two slaves exchange other PDOs in a direction, or others of their entries.
+fn differ(
+    alloc: Global,
+    pdos: (&[Pdo], &[Pdo]),
+    assigned: (&[u16], &[u16]),
+) -> Result<bool, AllocError>
+    ensures { IfOk result (λ d. d ≡ differ (pdos.entry.0.now, pdos.entry.1.now) (assigned.entry.0.now, assigned.entry.1.now)) }
+{
+    let one = exchanged(alloc, pdos.0, assigned.0)?;
+    let other = exchanged(alloc, pdos.1, assigned.1)?;
+    Ok(assigned.0 != assigned.1 || !have_same_entries(one.as_slice(), other.as_slice()))
+}
+
+/// The entries of the PDOs with these indices, one after another.
+fn exchanged(alloc: Global, pdos: &[Pdo], indices: &[u16]) -> Result<Listed<Entry>, AllocError>
+    ensures { IfOk result (λ es. es ≡ assigned_entries pdos.now indices.now) }
+{
+    let mut found = Listed::new(alloc);
+    for index in indices {
+        if let Some(pdo) = find_pdo(pdos, *index) {
+            push_entries(&mut found, pdo.entries.as_slice())?;
+        }
+    }
+    Ok(found)
+}
+
+/// Puts entries behind others.
+fn push_entries(found: &mut Listed<Entry>, entries: &[Entry]) -> Result<(), AllocError>
+    ensures { OnOk result (found.new ≡ found.old ++ entries.now) }
+{
+    for entry in entries {
+        found.push(*entry)?;
+    }
+    Ok(())
+}
+
+/// Whether a table has the slaves that were found and no others: nothing differs.
+#[tactic(auto, using(crate::proofs::SameSlaves::same_next))]
+pub fn agrees(alloc: Global, table: &Table, found: &[Found]) -> Result<bool, AllocError>
+    ensures { IfOk result (λ same. same ≡ agrees table.now found.now) }
+{
+    if table.slaves().len() != found.len() {
+        return Ok(false);
+    }
+    for (place, one) in found.iter().enumerate() {
+        if !is_same(alloc, table, place, one)? {
+            return Ok(false);
+        }
+    }
+    Ok(true)
+}
+
+/// Whether nothing differs between the slave of a table at a place and one that was found.
+#[tactic(auto, using(crate::proofs::SameSlaves::same_there))]
+fn is_same(alloc: Global, table: &Table, place: usize, found: &Found) -> Result<bool, AllocError>
+    requires { place < length table.now.slaves }
+    ensures { IfOk result (λ same. same ≡ is_same table.now place found.now) }
+{
+    let kind = table.kind_of(alloc, place)?;
+    Ok(differs(alloc, &kind, &table.slaves()[place], found)?.is_none())
+}
+
+/// What differs between the slaves that were found and a table, a line each; empty if nothing does. A line has the place of the slave,
+/// its name in the table, and what is there and what the table has.
+pub fn differences_text(
+    alloc: Global,
+    table: &Table,
+    found: &[Found],
+) -> Result<String, AllocError> {
+    let mut text = String::new(alloc);
+    let rows = table.slaves();
+    for (place, row) in rows.iter().enumerate() {
+        match found.get(place) {
+            Some(one) => {
+                let kind = table.kind_of(alloc, place)?;
+                let differences = differs(alloc, &kind, row, one)?;
+                write_differences(&mut text, place, row, &kind, one, differences)?;
+            }
+            None => writeln!(text, "slave {place} {}: missing", row.name.as_str())?,
+        }
+    }
+    for (place, one) in found.iter().enumerate().skip(rows.len()) {
+        write!(text, "slave {place}: not in the table: ")?;
+        write_device(&mut text, one.kind.device())?;
+        text.push_str("\n")?;
+    }
+    Ok(text)
+}
+
+/// Adds the lines of one slave.
+fn write_differences(
+    text: &mut String,
+    place: usize,
+    row: &SlaveRow,
+    kind: &SlaveType,
+    found: &Found,
+    differences: Differences,
+) -> Result<(), AllocError> {
+    let name = row.name.as_str();
+    if differences.device {
+        write!(text, "slave {place} {name}: device ")?;
+        write_device(text, found.kind.device())?;
+        text.push_str(", table ")?;
+        write_device(text, kind.device())?;
+        text.push_str("\n")?;
+    }
+    if differences.revision {
+        let (seen, wanted) = (found.kind.device().revision, kind.device().revision);
+        writeln!(
+            text,
+            "slave {place} {name}: revision 0x{seen:08X}, table 0x{wanted:08X}"
+        )?;
+    }
+    if differences.serial {
+        let (seen, wanted) = (found.serial, row.serial);
+        writeln!(text, "slave {place} {name}: serial {seen}, table {wanted}")?;
+    }
+    if differences.outputs {
+        writeln!(text, "slave {place} {name}: other outputs")?;
+    }
+    if differences.inputs {
+        writeln!(text, "slave {place} {name}: other inputs")?;
+    }
+    Ok(())
+}
+
+/// Adds vendor and product.
+fn write_device(text: &mut String, device: Device) -> Result<(), AllocError> {
+    write!(text, "0x{:X} 0x{:08X}", device.vendor, device.product)
+}

@@ -1,0 +1,4 @@
+mod Harmless
+mod LineLemmas
+mod FoundWords
+mod Flags

@@ -1,0 +1,5 @@
+use Rattle.std.proofs.Common.{◌*◌, ◌≡◌, length}
+use Rattle.ec_scan.proofs.sii.read_categories.Given as goal
+
+abbrev pub invariant-loop-place : goal.invariant-loop-place
+invariant-loop-place g l = length l.words ≡ 2 * l.place
