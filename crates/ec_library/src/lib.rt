@@ -1,43 +1,25 @@
 //! The master and the segment of a link table for programs in C; `include/ecat.h` has the calls as C sees them.
 //!
-//! An export takes a handle by value and hands one back through `out`, so that a handle is never in two places. The contract
-//! of each export relates what the two handles own: the call of the session, or of the slaves, leads from the first to the
-//! second.
+//! Only a static library exports, and no crate can stand on one. So each export is a call of `ec_handles`, with its contract again.
 #![tactic(auto)]
 
 ghost use Rattle.std.specs.Prelude.{◌≡◌, true, is_some, length, slice_get};
 ghost use Rattle.ec_slave.specs.Serving.{served};
 ghost use Rattle.ec_slave.specs.State.{power_on};
-ghost use Rattle.ec_library.specs.Calling.{AreCopied, AsksNext, AsksState, Begins, Closes, Does, Exchanges, Finds, Gets, GivesUp, HasFault, Leads, Passes, Reads, ReadsOutputs, Sets, SetsOutputs, CopiesInputs, CopiesPart, Takes, ReturnsPhase, ReturnsUnit, Writes, WritesInputs, counted};
-ghost use Rattle.ec_library.specs.Facts.{Explains, GetsSigned, ReturnsFailure, counters_of, counters_result, failure_name, name_at, place_result};
-ghost use Rattle.ec_library.specs.Holding.{failure_of};
-ghost use Rattle.ec_library.specs.Opening.{HasMaster, HasSlaves};
-ghost use Rattle.ec_library.specs.Refusing.{HasOpened};
-ghost use Rattle.ec_library.specs.Statuses.{state_result, told_of};
+ghost use Rattle.ec_handles.specs.Calling.{AreCopied, AsksNext, AsksState, Begins, Closes, Does, Exchanges, Finds, Gets, GivesUp, HasFault, Leads, Passes, Reads, ReadsOutputs, Sets, SetsOutputs, CopiesInputs, CopiesPart, Takes, ReturnsPhase, ReturnsUnit, Writes, WritesInputs, counted};
+ghost use Rattle.ec_handles.specs.Facts.{Explains, GetsSigned, ReturnsFailure, counters_of, counters_result, failure_name, name_at, place_result};
+ghost use Rattle.ec_handles.specs.Holding.{failure_of};
+ghost use Rattle.ec_handles.specs.Opening.{HasMaster, HasSlaves};
+ghost use Rattle.ec_handles.specs.Refusing.{HasOpened};
+ghost use Rattle.ec_handles.specs.Statuses.{state_result, told_of};
 
-mod calls;
-mod done;
-mod error;
-mod facts;
-mod handle;
-mod held;
-mod opening;
-mod polling;
-mod segments;
-mod statuses;
-
-use crate::done::{Closed, Done, VariableValue};
-use crate::facts::{PartCounters, Placed};
-use crate::handle::{
-    MasterHandle, RawBox, SegmentHandle, conceal_master, conceal_segment, reveal_master,
-    reveal_segment,
+use ec_handles::{
+    Closed, Done, MasterHandle, NotOpened, PartCounters, Placed, SegmentHandle, Told,
+    VariableValue, on_master, on_segment,
 };
-use crate::opening::{NotOpened, boxed_master, boxed_slaves, opened, refusal_result};
-use crate::statuses::Told;
 use std::alloc::Global;
 
-/// Opens the master of the table that bytes state, or writes the refusal into `told` and its name into `name`.
-#[tactic(auto, using(crate::proofs::Leading::opened_as, crate::proofs::Leading::refused_as))]
+/// [`on_master::open`] for programs in C.
 #[unsafe(no_mangle)]
 pub extern "C" fn ecat_c_open(
     alloc: Global,
@@ -48,25 +30,18 @@ pub extern "C" fn ecat_c_open(
 )
     ensures { HasOpened (HasMaster table.now) table.now told.new name.new out.new.held out.old out.new }
 {
-    match boxed_master(alloc, table) {
-        Ok(held) => {
-            *told = opened();
-            *out = conceal_master(RawBox::of(held));
-        }
-        Err(error) => *told = refusal_result(error, name),
-    }
+    on_master::open(alloc, table, name, told, out);
 }
 
-/// Frees a master.
+/// [`on_master::free`] for programs in C.
 #[unsafe(no_mangle)]
 pub extern "C" fn ecat_c_drop(alloc: Global, master: MasterHandle)
     requires { is_some master.held ≡ true }
 {
-    let _held = reveal_master(master).into_box(alloc);
+    on_master::free(alloc, master);
 }
 
-/// Writes the next frame of the start-up. The count is its length in bytes, 0 if there is none.
-#[tactic(auto, using(crate::proofs::Leading::leads))]
+/// [`on_master::next`] for programs in C.
 #[unsafe(no_mangle)]
 pub extern "C" fn ecat_c_next(
     alloc: Global,
@@ -77,14 +52,10 @@ pub extern "C" fn ecat_c_next(
     requires { is_some master.held ≡ true }
     ensures { Leads master.held out.new.held (λ m n. AsksNext m frame.old result frame.new n) }
 {
-    let mut held = reveal_master(master).into_box(alloc);
-    let done = calls::next(&mut held, frame);
-    *out = conceal_master(RawBox::of(held));
-    done
+    on_master::next(alloc, master, frame, out)
 }
 
-/// Takes a payload that came; done if it was kept. The count is how many parts of the open cycle are missing then.
-#[tactic(auto, using(crate::proofs::Leading::leads))]
+/// [`on_master::take`] for programs in C.
 #[unsafe(no_mangle)]
 pub extern "C" fn ecat_c_take(
     alloc: Global,
@@ -95,52 +66,37 @@ pub extern "C" fn ecat_c_take(
     requires { is_some master.held ≡ true }
     ensures { Leads master.held out.new.held (λ m n. Takes m payload.now result n) }
 {
-    let mut held = reveal_master(master).into_box(alloc);
-    let done = calls::take(&mut held, payload);
-    *out = conceal_master(RawBox::of(held));
-    done
+    on_master::take(alloc, master, payload, out)
 }
 
-/// Whether the start-up has ended Ready, or the number of its failure.
-#[tactic(auto, using(crate::proofs::Leading::leads))]
+/// [`on_master::phase`] for programs in C.
 #[unsafe(no_mangle)]
 pub extern "C" fn ecat_c_phase(alloc: Global, master: MasterHandle, out: &mut MasterHandle) -> Done
     requires { is_some master.held ≡ true }
     ensures { Leads master.held out.new.held (λ m n. ReturnsPhase m result n) }
 {
-    let held = reveal_master(master).into_box(alloc);
-    let done = calls::phase(&held);
-    *out = conceal_master(RawBox::of(held));
-    done
+    on_master::phase(alloc, master, out)
 }
 
-/// Ends a start-up that runs, as lost.
-#[tactic(auto, using(crate::proofs::Leading::leads))]
+/// [`on_master::give_up`] for programs in C.
 #[unsafe(no_mangle)]
 pub extern "C" fn ecat_c_give_up(alloc: Global, master: MasterHandle, out: &mut MasterHandle)
     requires { is_some master.held ≡ true }
     ensures { Leads master.held out.new.held (λ m n. GivesUp m n) }
 {
-    let mut held = reveal_master(master).into_box(alloc);
-    calls::give_up(&mut held);
-    *out = conceal_master(RawBox::of(held));
+    on_master::give_up(alloc, master, out);
 }
 
-/// Whether the last frame of the start-up asks again what the one before it asked.
-#[tactic(auto, using(crate::proofs::Leading::leads))]
+/// [`on_master::waits`] for programs in C.
 #[unsafe(no_mangle)]
 pub extern "C" fn ecat_c_waits(alloc: Global, master: MasterHandle, out: &mut MasterHandle) -> bool
     requires { is_some master.held ≡ true }
     ensures { Leads master.held out.new.held (λ m n. (n ≡ m) × (result ≡ m.polling.is_again)) }
 {
-    let held = reveal_master(master).into_box(alloc);
-    let done = held.polling.is_again;
-    *out = conceal_master(RawBox::of(held));
-    done
+    on_master::waits(alloc, master, out)
 }
 
-/// The number of the last start-up's failure, or not done. The count is how many values it has, and these are written into `values`.
-#[tactic(auto, using(crate::proofs::Leading::leads))]
+/// [`on_master::failure`] for programs in C.
 #[unsafe(no_mangle)]
 pub extern "C" fn ecat_c_failure(
     alloc: Global,
@@ -151,14 +107,10 @@ pub extern "C" fn ecat_c_failure(
     requires { is_some master.held ≡ true }
     ensures { Leads master.held out.new.held (λ m n. (n ≡ m) × ReturnsFailure (failure_of m) values.old result values.new) }
 {
-    let held = reveal_master(master).into_box(alloc);
-    let done = facts::failure(&held, values);
-    *out = conceal_master(RawBox::of(held));
-    done
+    on_master::failure(alloc, master, values, out)
 }
 
-/// Writes the name of that failure, if it fits. The count is its length in bytes, 0 if there is no failure.
-#[tactic(auto, using(crate::proofs::Leading::leads))]
+/// [`on_master::failure_name`] for programs in C.
 #[unsafe(no_mangle)]
 pub extern "C" fn ecat_c_failure_name(
     alloc: Global,
@@ -169,14 +121,10 @@ pub extern "C" fn ecat_c_failure_name(
     requires { is_some master.held ≡ true }
     ensures { Leads master.held out.new.held (λ m n. (n ≡ m) × AreCopied (failure_name (failure_of m)) name.old result name.new) }
 {
-    let held = reveal_master(master).into_box(alloc);
-    let done = facts::copy_failure_name(&held, name);
-    *out = conceal_master(RawBox::of(held));
-    done
+    on_master::failure_name(alloc, master, name, out)
 }
 
-/// Writes in words what the last start-up failed by, if they fit. The count is their length in bytes, 0 if it didn't fail.
-#[tactic(auto, using(crate::proofs::Leading::leads))]
+/// [`on_master::explain`] for programs in C.
 #[unsafe(no_mangle)]
 pub extern "C" fn ecat_c_explain(
     alloc: Global,
@@ -187,14 +135,10 @@ pub extern "C" fn ecat_c_explain(
     requires { is_some master.held ≡ true }
     ensures { Leads master.held out.new.held (λ m n. (n ≡ m) × Explains (failure_of m) words.old result words.new) }
 {
-    let held = reveal_master(master).into_box(alloc);
-    let done = facts::explain(&held, words);
-    *out = conceal_master(RawBox::of(held));
-    done
+    on_master::explain(alloc, master, words, out)
 }
 
-/// Writes the frame that asks for the AL state of a slave. The count is its length in bytes, 0 if there is none.
-#[tactic(auto, using(crate::proofs::Leading::leads))]
+/// [`on_master::state_next`] for programs in C.
 #[unsafe(no_mangle)]
 pub extern "C" fn ecat_c_state_next(
     alloc: Global,
@@ -206,14 +150,10 @@ pub extern "C" fn ecat_c_state_next(
     requires { is_some master.held ≡ true }
     ensures { Leads master.held out.new.held (λ m n. AsksState m slave frame.old result frame.new n) }
 {
-    let mut held = reveal_master(master).into_box(alloc);
-    let done = calls::next_state(&mut held, slave, frame);
-    *out = conceal_master(RawBox::of(held));
-    done
+    on_master::state_next(alloc, master, slave, frame, out)
 }
 
-/// What the last answer said of the AL state of a slave.
-#[tactic(auto, using(crate::proofs::Leading::leads))]
+/// [`on_master::state`] for programs in C.
 #[unsafe(no_mangle)]
 pub extern "C" fn ecat_c_state(
     alloc: Global,
@@ -224,40 +164,28 @@ pub extern "C" fn ecat_c_state(
     requires { is_some master.held ≡ true }
     ensures { Leads master.held out.new.held (λ m n. (n ≡ m) × (result ≡ state_result (told_of m.statuses slave))) }
 {
-    let held = reveal_master(master).into_box(alloc);
-    let told = held.statuses.told(slave);
-    *out = conceal_master(RawBox::of(held));
-    told
+    on_master::state(alloc, master, slave, out)
 }
 
-/// The number of slaves, as the count.
-#[tactic(auto, using(crate::proofs::Leading::leads))]
+/// [`on_master::slaves`] for programs in C.
 #[unsafe(no_mangle)]
 pub extern "C" fn ecat_c_slaves(alloc: Global, master: MasterHandle, out: &mut MasterHandle) -> Done
     requires { is_some master.held ≡ true }
     ensures { Leads master.held out.new.held (λ m n. (n ≡ m) × (result ≡ counted true (length m.session.master.plan.slaves))) }
 {
-    let held = reveal_master(master).into_box(alloc);
-    let done = calls::slaves(&held);
-    *out = conceal_master(RawBox::of(held));
-    done
+    on_master::slaves(alloc, master, out)
 }
 
-/// Begins a cycle. The count is its number of parts.
-#[tactic(auto, using(crate::proofs::Leading::leads))]
+/// [`on_master::begin`] for programs in C.
 #[unsafe(no_mangle)]
 pub extern "C" fn ecat_c_begin(alloc: Global, master: MasterHandle, out: &mut MasterHandle) -> Done
     requires { is_some master.held ≡ true }
     ensures { Leads master.held out.new.held (λ m n. Begins m result n) }
 {
-    let mut held = reveal_master(master).into_box(alloc);
-    let done = calls::begin(&mut held);
-    *out = conceal_master(RawBox::of(held));
-    done
+    on_master::begin(alloc, master, out)
 }
 
-/// Writes the frame of a part of the open cycle, if it fits. The count is its length in bytes.
-#[tactic(auto, using(crate::proofs::Leading::leads))]
+/// [`on_master::part`] for programs in C.
 #[unsafe(no_mangle)]
 pub extern "C" fn ecat_c_part(
     alloc: Global,
@@ -269,14 +197,10 @@ pub extern "C" fn ecat_c_part(
     requires { is_some master.held ≡ true }
     ensures { Leads master.held out.new.held (λ m n. CopiesPart m part frame.old result frame.new n) }
 {
-    let held = reveal_master(master).into_box(alloc);
-    let done = calls::copy_part(&held, part, frame);
-    *out = conceal_master(RawBox::of(held));
-    done
+    on_master::part(alloc, master, part, frame, out)
 }
 
-/// Closes the cycle, and returns its report: whether all units were taken, the missing parts, and the AL word.
-#[tactic(auto, using(crate::proofs::Leading::leads))]
+/// [`on_master::close`] for programs in C.
 #[unsafe(no_mangle)]
 pub extern "C" fn ecat_c_close(
     alloc: Global,
@@ -286,14 +210,10 @@ pub extern "C" fn ecat_c_close(
     requires { is_some master.held ≡ true }
     ensures { Leads master.held out.new.held (λ m n. Closes m result n) }
 {
-    let mut held = reveal_master(master).into_box(alloc);
-    let done = calls::close(&mut held);
-    *out = conceal_master(RawBox::of(held));
-    done
+    on_master::close(alloc, master, out)
 }
 
-/// Whether a sync unit was taken in the last report. The count is 1 if the report has the unit.
-#[tactic(auto, using(crate::proofs::Leading::leads))]
+/// [`on_master::unit`] for programs in C.
 #[unsafe(no_mangle)]
 pub extern "C" fn ecat_c_unit(
     alloc: Global,
@@ -304,14 +224,10 @@ pub extern "C" fn ecat_c_unit(
     requires { is_some master.held ≡ true }
     ensures { Leads master.held out.new.held (λ m n. ReturnsUnit m unit result n) }
 {
-    let held = reveal_master(master).into_box(alloc);
-    let done = calls::unit_result_of(&held, unit);
-    *out = conceal_master(RawBox::of(held));
-    done
+    on_master::unit(alloc, master, unit, out)
 }
 
-/// The working counters of a part in the last report.
-#[tactic(auto, using(crate::proofs::Leading::leads))]
+/// [`on_master::counters`] for programs in C.
 #[unsafe(no_mangle)]
 pub extern "C" fn ecat_c_counters(
     alloc: Global,
@@ -322,14 +238,10 @@ pub extern "C" fn ecat_c_counters(
     requires { is_some master.held ≡ true }
     ensures { Leads master.held out.new.held (λ m n. (n ≡ m) × (result ≡ counters_result (counters_of m part))) }
 {
-    let held = reveal_master(master).into_box(alloc);
-    let counters = facts::counters(&held, part);
-    *out = conceal_master(RawBox::of(held));
-    counters
+    on_master::counters(alloc, master, part, out)
 }
 
-/// Sets a variable of the outputs, if there is one that holds the value.
-#[tactic(auto, using(crate::proofs::Leading::leads))]
+/// [`on_master::set`] for programs in C.
 #[unsafe(no_mangle)]
 pub extern "C" fn ecat_c_set(
     alloc: Global,
@@ -341,14 +253,10 @@ pub extern "C" fn ecat_c_set(
     requires { is_some master.held ≡ true }
     ensures { Leads master.held out.new.held (λ m n. Sets m variable value result n) }
 {
-    let mut held = reveal_master(master).into_box(alloc);
-    let done = calls::set(&mut held, variable, value);
-    *out = conceal_master(RawBox::of(held));
-    done
+    on_master::set(alloc, master, variable, value, out)
 }
 
-/// The value of a variable, if there is one.
-#[tactic(auto, using(crate::proofs::Leading::leads))]
+/// [`on_master::get`] for programs in C.
 #[unsafe(no_mangle)]
 pub extern "C" fn ecat_c_get(
     alloc: Global,
@@ -359,14 +267,10 @@ pub extern "C" fn ecat_c_get(
     requires { is_some master.held ≡ true }
     ensures { Leads master.held out.new.held (λ m n. Gets m variable result n) }
 {
-    let held = reveal_master(master).into_box(alloc);
-    let done = calls::get(&held, variable);
-    *out = conceal_master(RawBox::of(held));
-    done
+    on_master::get(alloc, master, variable, out)
 }
 
-/// Sets the image of all outputs if the lengths agree. The count is the image's number of bytes.
-#[tactic(auto, using(crate::proofs::Leading::leads))]
+/// [`on_master::outputs`] for programs in C.
 #[unsafe(no_mangle)]
 pub extern "C" fn ecat_c_outputs(
     alloc: Global,
@@ -377,14 +281,10 @@ pub extern "C" fn ecat_c_outputs(
     requires { is_some master.held ≡ true }
     ensures { Leads master.held out.new.held (λ m n. SetsOutputs m outputs.now result n) }
 {
-    let mut held = reveal_master(master).into_box(alloc);
-    let done = calls::set_outputs(&mut held, outputs);
-    *out = conceal_master(RawBox::of(held));
-    done
+    on_master::outputs(alloc, master, outputs, out)
 }
 
-/// Writes the image of all inputs, if it fits. The count is its number of bytes.
-#[tactic(auto, using(crate::proofs::Leading::leads))]
+/// [`on_master::inputs`] for programs in C.
 #[unsafe(no_mangle)]
 pub extern "C" fn ecat_c_inputs(
     alloc: Global,
@@ -395,14 +295,10 @@ pub extern "C" fn ecat_c_inputs(
     requires { is_some master.held ≡ true }
     ensures { Leads master.held out.new.held (λ m n. CopiesInputs m inputs.old result inputs.new n) }
 {
-    let held = reveal_master(master).into_box(alloc);
-    let done = calls::copy_inputs(&held, inputs);
-    *out = conceal_master(RawBox::of(held));
-    done
+    on_master::inputs(alloc, master, inputs, out)
 }
 
-/// The number of the variable with a name, as the count; not done if there is none.
-#[tactic(auto, using(crate::proofs::Leading::leads))]
+/// [`on_master::variable`] for programs in C.
 #[unsafe(no_mangle)]
 pub extern "C" fn ecat_c_variable(
     alloc: Global,
@@ -413,14 +309,10 @@ pub extern "C" fn ecat_c_variable(
     requires { is_some master.held ≡ true }
     ensures { Leads master.held out.new.held (λ m n. Finds m name.now result n) }
 {
-    let held = reveal_master(master).into_box(alloc);
-    let done = calls::find(&held, name);
-    *out = conceal_master(RawBox::of(held));
-    done
+    on_master::variable(alloc, master, name, out)
 }
 
-/// The value of a variable with its sign, if there is one.
-#[tactic(auto, using(crate::proofs::Leading::leads))]
+/// [`on_master::get_signed`] for programs in C.
 #[unsafe(no_mangle)]
 pub extern "C" fn ecat_c_get_signed(
     alloc: Global,
@@ -431,14 +323,10 @@ pub extern "C" fn ecat_c_get_signed(
     requires { is_some master.held ≡ true }
     ensures { Leads master.held out.new.held (λ m n. (n ≡ m) × GetsSigned m variable result) }
 {
-    let held = reveal_master(master).into_box(alloc);
-    let done = facts::get_signed(&held, variable);
-    *out = conceal_master(RawBox::of(held));
-    done
+    on_master::get_signed(alloc, master, variable, out)
 }
 
-/// The number of variables, as the count.
-#[tactic(auto, using(crate::proofs::Leading::leads))]
+/// [`on_master::variables`] for programs in C.
 #[unsafe(no_mangle)]
 pub extern "C" fn ecat_c_variables(
     alloc: Global,
@@ -448,14 +336,10 @@ pub extern "C" fn ecat_c_variables(
     requires { is_some master.held ≡ true }
     ensures { Leads master.held out.new.held (λ m n. (n ≡ m) × (result ≡ counted true (length m.session.master.plan.variables))) }
 {
-    let held = reveal_master(master).into_box(alloc);
-    let done = calls::variables(&held);
-    *out = conceal_master(RawBox::of(held));
-    done
+    on_master::variables(alloc, master, out)
 }
 
-/// Where a variable is, if there is one.
-#[tactic(auto, using(crate::proofs::Leading::leads))]
+/// [`on_master::place`] for programs in C.
 #[unsafe(no_mangle)]
 pub extern "C" fn ecat_c_place(
     alloc: Global,
@@ -466,14 +350,10 @@ pub extern "C" fn ecat_c_place(
     requires { is_some master.held ≡ true }
     ensures { Leads master.held out.new.held (λ m n. (n ≡ m) × (result ≡ place_result (slice_get m.session.master.plan.variables variable))) }
 {
-    let held = reveal_master(master).into_box(alloc);
-    let place = facts::place(&held, variable);
-    *out = conceal_master(RawBox::of(held));
-    place
+    on_master::place(alloc, master, variable, out)
 }
 
-/// Writes the name of a variable, if it fits. The count is its length in bytes, 0 if there is no such variable.
-#[tactic(auto, using(crate::proofs::Leading::leads))]
+/// [`on_master::name`] for programs in C.
 #[unsafe(no_mangle)]
 pub extern "C" fn ecat_c_name(
     alloc: Global,
@@ -485,14 +365,10 @@ pub extern "C" fn ecat_c_name(
     requires { is_some master.held ≡ true }
     ensures { Leads master.held out.new.held (λ m n. (n ≡ m) × AreCopied (name_at m.session.table variable) name.old result name.new) }
 {
-    let held = reveal_master(master).into_box(alloc);
-    let done = facts::copy_name(&held, variable, name);
-    *out = conceal_master(RawBox::of(held));
-    done
+    on_master::name(alloc, master, variable, name, out)
 }
 
-/// Opens the slaves of the table that bytes state, just switched on, as full slaves if `full`. Refuses as `ecat_c_open` does.
-#[tactic(auto, using(crate::proofs::Leading::opened_as, crate::proofs::Leading::refused_as))]
+/// [`on_segment::open`] for programs in C.
 #[unsafe(no_mangle)]
 pub extern "C" fn ecat_c_segment_open(
     alloc: Global,
@@ -504,25 +380,18 @@ pub extern "C" fn ecat_c_segment_open(
 )
     ensures { HasOpened (HasSlaves full table.now) table.now told.new name.new out.new.slaves out.old out.new }
 {
-    match boxed_slaves(alloc, table, full) {
-        Ok(slaves) => {
-            *told = opened();
-            *out = conceal_segment(RawBox::of(slaves));
-        }
-        Err(error) => *told = refusal_result(error, name),
-    }
+    on_segment::open(alloc, table, full, name, told, out);
 }
 
-/// Frees a segment.
+/// [`on_segment::free`] for programs in C.
 #[unsafe(no_mangle)]
 pub extern "C" fn ecat_c_segment_drop(alloc: Global, segment: SegmentHandle)
     requires { is_some segment.slaves ≡ true }
 {
-    let _slaves = reveal_segment(segment).into_box(alloc);
+    on_segment::free(alloc, segment);
 }
 
-/// Passes a frame through all slaves; not done if the bytes are no frame.
-#[tactic(auto, using(crate::proofs::Leading::leads))]
+/// [`on_segment::pass`] for programs in C.
 #[unsafe(no_mangle)]
 pub extern "C" fn ecat_c_segment_pass(
     alloc: Global,
@@ -533,14 +402,10 @@ pub extern "C" fn ecat_c_segment_pass(
     requires { is_some segment.slaves ≡ true }
     ensures { Leads segment.slaves out.new.slaves (λ old new. Passes old frame.old result frame.new new) }
 {
-    let mut slaves = reveal_segment(segment).into_box(alloc);
-    let done = segments::pass(&mut slaves, frame);
-    *out = conceal_segment(RawBox::of(slaves));
-    done
+    on_segment::pass(alloc, segment, frame, out)
 }
 
-/// Makes a firmware step of a slave, if it is there.
-#[tactic(auto, using(crate::proofs::Leading::leads))]
+/// [`on_segment::serve`] for programs in C.
 #[unsafe(no_mangle)]
 pub extern "C" fn ecat_c_segment_serve(
     alloc: Global,
@@ -551,14 +416,10 @@ pub extern "C" fn ecat_c_segment_serve(
     requires { is_some segment.slaves ≡ true }
     ensures { Leads segment.slaves out.new.slaves (λ old new. Does old slave served result new) }
 {
-    let mut slaves = reveal_segment(segment).into_box(alloc);
-    let done = segments::serve(&mut slaves, slave);
-    *out = conceal_segment(RawBox::of(slaves));
-    done
+    on_segment::serve(alloc, segment, slave, out)
 }
 
-/// The application of a slave reads a byte of its outputs, if it is there and may.
-#[tactic(auto, using(crate::proofs::Leading::leads))]
+/// [`on_segment::get`] for programs in C.
 #[unsafe(no_mangle)]
 pub extern "C" fn ecat_c_segment_get(
     alloc: Global,
@@ -571,14 +432,10 @@ pub extern "C" fn ecat_c_segment_get(
     requires { is_some segment.slaves ≡ true }
     ensures { Leads segment.slaves out.new.slaves (λ old new. Reads old slave offset byte.old result byte.new new) }
 {
-    let mut slaves = reveal_segment(segment).into_box(alloc);
-    let done = segments::get(&mut slaves, slave, offset, byte);
-    *out = conceal_segment(RawBox::of(slaves));
-    done
+    on_segment::get(alloc, segment, slave, offset, byte, out)
 }
 
-/// The application of a slave writes a byte of its inputs, if it is there and may.
-#[tactic(auto, using(crate::proofs::Leading::leads))]
+/// [`on_segment::put`] for programs in C.
 #[unsafe(no_mangle)]
 pub extern "C" fn ecat_c_segment_put(
     alloc: Global,
@@ -591,14 +448,10 @@ pub extern "C" fn ecat_c_segment_put(
     requires { is_some segment.slaves ≡ true }
     ensures { Leads segment.slaves out.new.slaves (λ old new. Writes old slave offset byte result new) }
 {
-    let mut slaves = reveal_segment(segment).into_box(alloc);
-    let done = segments::put(&mut slaves, slave, offset, byte);
-    *out = conceal_segment(RawBox::of(slaves));
-    done
+    on_segment::put(alloc, segment, slave, offset, byte, out)
 }
 
-/// The application of a slave reads its outputs whole, if they fit. The count is how many bytes it may read, 0 if the slave isn't there.
-#[tactic(auto, using(crate::proofs::Leading::leads))]
+/// [`on_segment::outputs`] for programs in C.
 #[unsafe(no_mangle)]
 pub extern "C" fn ecat_c_segment_outputs(
     alloc: Global,
@@ -610,15 +463,10 @@ pub extern "C" fn ecat_c_segment_outputs(
     requires { is_some segment.slaves ≡ true }
     ensures { Leads segment.slaves out.new.slaves (λ old new. ReadsOutputs old slave outputs.old result outputs.new new) }
 {
-    let mut slaves = reveal_segment(segment).into_box(alloc);
-    let done = segments::read_outputs(&mut slaves, slave, outputs);
-    *out = conceal_segment(RawBox::of(slaves));
-    done
+    on_segment::outputs(alloc, segment, slave, outputs, out)
 }
 
-/// The application of a slave writes its inputs whole, if there are enough. The count is how many bytes it may write, 0 if the slave
-/// isn't there.
-#[tactic(auto, using(crate::proofs::Leading::leads))]
+/// [`on_segment::inputs`] for programs in C.
 #[unsafe(no_mangle)]
 pub extern "C" fn ecat_c_segment_inputs(
     alloc: Global,
@@ -630,15 +478,10 @@ pub extern "C" fn ecat_c_segment_inputs(
     requires { is_some segment.slaves ≡ true }
     ensures { Leads segment.slaves out.new.slaves (λ old new. WritesInputs old slave inputs.now result new) }
 {
-    let mut slaves = reveal_segment(segment).into_box(alloc);
-    let done = segments::write_inputs(&mut slaves, slave, inputs);
-    *out = conceal_segment(RawBox::of(slaves));
-    done
+    on_segment::inputs(alloc, segment, slave, inputs, out)
 }
 
-/// Makes a firmware step of a slave, whose application then writes its inputs and reads its outputs, each whole. The count is how many
-/// bytes of outputs it may read, 0 if the slave isn't there.
-#[tactic(auto, using(crate::proofs::Leading::leads))]
+/// [`on_segment::exchange`] for programs in C.
 #[unsafe(no_mangle)]
 pub extern "C" fn ecat_c_segment_exchange(
     alloc: Global,
@@ -651,14 +494,10 @@ pub extern "C" fn ecat_c_segment_exchange(
     requires { is_some segment.slaves ≡ true }
     ensures { Leads segment.slaves out.new.slaves (λ old new. Exchanges old slave inputs.now outputs.old result outputs.new new) }
 {
-    let mut slaves = reveal_segment(segment).into_box(alloc);
-    let done = segments::exchange(&mut slaves, slave, inputs, outputs);
-    *out = conceal_segment(RawBox::of(slaves));
-    done
+    on_segment::exchange(alloc, segment, slave, inputs, outputs, out)
 }
 
-/// The application of a slave has a fault, if the slave is there and in OP.
-#[tactic(auto, using(crate::proofs::Leading::leads))]
+/// [`on_segment::fault`] for programs in C.
 #[unsafe(no_mangle)]
 pub extern "C" fn ecat_c_segment_fault(
     alloc: Global,
@@ -669,14 +508,10 @@ pub extern "C" fn ecat_c_segment_fault(
     requires { is_some segment.slaves ≡ true }
     ensures { Leads segment.slaves out.new.slaves (λ old new. HasFault old slave result new) }
 {
-    let mut slaves = reveal_segment(segment).into_box(alloc);
-    let done = segments::fault(&mut slaves, slave);
-    *out = conceal_segment(RawBox::of(slaves));
-    done
+    on_segment::fault(alloc, segment, slave, out)
 }
 
-/// Switches a slave off and on, if it is there.
-#[tactic(auto, using(crate::proofs::Leading::leads))]
+/// [`on_segment::reset`] for programs in C.
 #[unsafe(no_mangle)]
 pub extern "C" fn ecat_c_segment_reset(
     alloc: Global,
@@ -687,8 +522,5 @@ pub extern "C" fn ecat_c_segment_reset(
     requires { is_some segment.slaves ≡ true }
     ensures { Leads segment.slaves out.new.slaves (λ old new. Does old slave (λ s. power_on s.kind s.identity) result new) }
 {
-    let mut slaves = reveal_segment(segment).into_box(alloc);
-    let done = segments::reset(&mut slaves, slave);
-    *out = conceal_segment(RawBox::of(slaves));
-    done
+    on_segment::reset(alloc, segment, slave, out)
 }
