@@ -35,6 +35,9 @@ class Image:
     inputs: tuple[Listed, ...] = ()
     outputs: tuple[Listed, ...] = ()
     kibibits: int = field(default=16)
+    # strings behind the name, and which number names which PDO, by its index, and which entry, by its PDO and its place
+    strings: tuple[bytes, ...] = ()
+    titles: dict[int | tuple[int, int], int] = field(default_factory=dict)
 
 
 def checksum(data: bytes) -> int:
@@ -53,8 +56,10 @@ def category(kind: int, body: bytes) -> bytes:
     return struct.pack("<HH", kind, len(body) // 2) + body
 
 
-def strings(name: str) -> bytes:
-    return bytes([1, len(name)]) + name.encode()
+def strings(image: Image) -> bytes:
+    """How many there are; each has its length before it."""
+    rows = (image.name.encode(), *image.strings)
+    return bytes([len(rows)]) + b"".join(bytes([len(row)]) + row for row in rows)
 
 
 def general(image: Image) -> bytes:
@@ -68,21 +73,23 @@ def managers(image: Image) -> bytes:
     return b"".join(struct.pack("<HHBBBB", start, length, control, 0, enable, use) for start, length, control, enable, use in image.managers)
 
 
-def objects(listed: tuple[Listed, ...]) -> bytes:
-    """Each object: index, how many entries, its manager, no name; each entry: index, subindex, no name, no type, bits."""
+def objects(listed: tuple[Listed, ...], titles: dict[int | tuple[int, int], int]) -> bytes:
+    """Each object: index, how many entries, its manager, its name; each entry: index, subindex, its name, no type, bits. A name is the
+    number of a string, or 0."""
     body = b""
     for index, manager, entries in listed:
-        body += struct.pack("<HBBBBH", index, len(entries), manager, 0, 0, 0)
-        body += b"".join(struct.pack("<HBBBBH", entry, sub, 0, 0, bits, 0) for entry, sub, bits in entries)
+        body += struct.pack("<HBBBBH", index, len(entries), manager, 0, titles.get(index, 0), 0)
+        for place, (entry, sub, bits) in enumerate(entries):
+            body += struct.pack("<HBBBBH", entry, sub, titles.get((index, place), 0), 0, bits, 0)
     return body
 
 
 def categories(image: Image) -> bytes:
     """The categories in the order of their types, and the end mark."""
-    found = category(STRINGS, strings(image.name)) + category(GENERAL, general(image))
+    found = category(STRINGS, strings(image)) + category(GENERAL, general(image))
     found += category(FMMUS, bytes(image.fmmus)) + category(MANAGERS, managers(image))
     for kind, listed in ((INPUTS, image.inputs), (OUTPUTS, image.outputs)):
-        found += category(kind, objects(listed)) if listed else b""
+        found += category(kind, objects(listed, image.titles)) if listed else b""
     return found + struct.pack("<H", END)
 
 

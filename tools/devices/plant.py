@@ -140,12 +140,18 @@ def unasked(device: Coe) -> list[str]:
     return [f"0x{index:04x}:{sub} became {value}" for index, sub, value in device.downloads if index not in own and (index, sub, value) not in init]
 
 
-def differences(device: Slave) -> list[str]:
-    """What isn't as it must be once a device is in OP and has the outputs that were set."""
+def unlike_outputs(device: Slave) -> list[str]:
+    """What isn't so at a device that must be in OP and have the outputs that were set."""
     found = [f"state {device.looks()['state']}"] if device.state != OP or device.has_error else []
     wanted = device.wanted_pins()
     if wanted is not None and device.pins() != wanted:
         found.append(f"pins {device.pins().hex()}, wanted {wanted.hex()}")
+    return found
+
+
+def differences(device: Slave) -> list[str]:
+    """What isn't as it must be once a device is in OP, has the outputs that were set, and was started up by its table."""
+    found = unlike_outputs(device)
     for way, title in enumerate(("outputs", "inputs")):
         found += areas(device, way, title)
     return found + strangers(device)

@@ -111,7 +111,8 @@ GOALS: dict[str, str] = {
     "Falls": "up, but state SAFEOP+ERROR 001d; pins 00, wanted a5",
 }
 
-# how `ecat scan` ends with each row, and how the row starts by the table that was found: `found; up`, but for these rows
+# how `ecat scan` ends with each row, how the row starts by the types and slaves that were found, and what is wrong then with its inputs and
+# outputs: `found; up`, but for these rows
 SCANNED: dict[str, str] = {
     # Entries of over 64 bits, and managers over 3, can't be said. The start-up leaves such inputs as they are, and so their manager has
     # another length (0x1E); of the managers it sets others (0x1D).
@@ -120,7 +121,14 @@ SCANNED: dict[str, str] = {
     **dict.fromkeys(("Deaf", "EndlessEmergencies", "Erring"), "31 TooSlow"), "WrongIndex": "9 BadMailbox 0",
     # the scan sets such messages aside, and takes a value of another size or without one; the start-up doesn't yet
     **dict.fromkeys(("Emergencies", "Chatty", "OtherProtocol", "Unsized", "Wide", "DriveShouting", "FixedWithParameters"), "found; 9 BadMailbox 0"),
-    "drives": "found; 9 BadMailbox 3", "parameters": "found; 9 BadMailbox 2",
+    "parameters": "found; 9 BadMailbox 2",
+    # a scan finds the mapping as it is: no entry is yet the one that the row's parameters put there
+    "OtherMapping": "found; 17 NoEntry 0", "DriveRemapped": "found; 17 NoEntry 1", "drives": "found; 17 NoEntry 5",
+    # a scan doesn't know the parameter that sets the mode
+    **{name: f"found; up; unmet `expect {drive}_position 4711`; {drive}: position 0, wanted 4711; unmet `expect {drive}_position -300`; "
+             f"{drive}: position 0, wanted -300" for name, drive in (("Drive", "drive"), ("DriveQuick", "drivequick"), ("machine", "drive"))},
+    # as by its own table
+    "Falls": "found; up; state SAFEOP+ERROR 001d; pins 00, wanted a5",
     # their SIIs say that the assignment can be written; 0x06010002: the object can only be read
     **dict.fromkeys(("FixedAssignment", "FixedOtherwise", "FixedFewer"), "found; 30 Abort 0 100728834"),
     # there are no distributed clocks

@@ -143,6 +143,8 @@ MACHINES = {
     "drive": Machine("examples/drive.toml", [SERVO]),
     "line": Machine("examples/line.toml", [DO16, DI16] * 8),
     "small_machine": Machine("examples/small_machine.toml", [PANEL, ANALOG2]),
+    # found by `ecat scan` alone
+    "three_slaves": Machine("examples/three_slaves.toml", []),
     "terminals": Machine("examples/terminals.toml", [COUPLER, DI8, DO8, DI8, DO8]),
     "axis": Machine("tools/scan/data/axis.toml", [AXIS, LAMPS, EYE]),
     "kibibit": Machine("tools/scan/data/kibibit.toml", [DI3]),

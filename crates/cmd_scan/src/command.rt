@@ -2,13 +2,14 @@
 ghost use Rattle.std.specs.Prelude.{◌≡◌, IfErr, IfOk};
 ghost use Rattle.std.specs.String.{string_bytes};
 ghost use Rattle.cmd_scan.specs.Scans.{AreFound, IsScanOf, IsScanRefusal, RunsAgainst, RunsScan, against_end, first_unsaid, line_ends, unsaid_end};
+ghost use Rattle.ec_console.specs.Explaining.{IsLeft};
 ghost use Rattle.ec_scan.specs.Lines.{IsFresh};
 
 use crate::finding::{Seen, found_all};
 use cmd_master::connect;
 use ec_card::{CardWire, Sender};
-use ec_console::{OutputStream, Refusal, print_text};
-use ec_found::{Found, FoundError, agrees, differences_text, printed};
+use ec_console::{Explanation, OutputStream, Refusal, print_text};
+use ec_found::{Found, FoundError, agrees, differences_text, printed, unsaid_text};
 use ec_link::MachineError;
 use ec_scan::{Line, ScanError, Shown, scan};
 use ec_table::Table;
@@ -29,7 +30,7 @@ pub struct ScanOptions<'a> {
 }
 
 /// Scans a segment and prints a link table of its slaves. The table was read back before: it states the slaves that were found, and has
-/// a plan.
+/// a plan. What a table can't say of the slaves is explained in `behind`, if that is wanted.
 ///
 /// # Errors
 ///
@@ -40,13 +41,17 @@ pub fn run_scan<H: AllocGlobal + Net + Clock, W: Write + Drop>(
     rt: &H,
     options: ScanOptions<'_>,
     output: &mut OutputStream<W>,
+    behind: &mut Explanation,
 ) -> Result<(), Refusal>
-    ensures { RunsScan output.old output.new result }
+    ensures runs { RunsScan output.old output.new result }
+    ensures explains { IsLeft behind.old behind.new }
 {
     let seen = scan_at(rt, options)?;
     let text = text_of(rt.alloc(), &seen)?;
     print_text(text.as_bytes(), output)?;
-    unsaid_end(seen.found.as_slice())
+    let (shown, found) = (seen.shown.as_slice(), seen.found.as_slice());
+    behind.explain_by(unsaid_text(rt.alloc(), shown, found));
+    unsaid_end(found)
 }
 
 /// Scans a segment and prints what differs between its slaves and a table, a line each.

@@ -12,7 +12,7 @@ use std::net::Net;
 use std::time::Clock;
 
 /// Scans a segment and prints a link table of its slaves; if the file of a table is named, what differs from that. The file is read
-/// before the scan, and `behind` explains a refusal of it, if that is wanted.
+/// before the scan. `behind` explains a refusal of it, or what a table can't say of the slaves, if that is wanted.
 ///
 /// # Errors
 ///
@@ -28,7 +28,7 @@ pub fn print_scan<H: AllocGlobal + Net + Files + Clock, W: Write + Drop>(
     ensures explains { IsLeft behind.old behind.new }
 {
     match against {
-        None => run_scan(rt, options, output),
+        None => run_scan(rt, options, output, behind),
         Some(path) => {
             let machine = read_linked(rt, path, behind)?;
             run_against(rt, options, machine.table(), output)

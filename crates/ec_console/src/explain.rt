@@ -75,6 +75,15 @@ impl Explanation {
         }
     }
 
+    /// Explains a refusal by a text that the command has made, if that is wanted and there was memory for it.
+    pub fn explain_by(&mut self, made: Result<String, AllocError>)
+        ensures { IsLeft self.old self.new }
+    {
+        if self.is_wanted {
+            self.keep(made);
+        }
+    }
+
     /// Explains a fault of the input, the output or a socket, if that is wanted and nothing is explained yet. If the input is a file,
     /// its name is given.
     pub fn explain_stream(&mut self, alloc: Global, file: Option<&str>, ended: &Result<(), Refusal>)

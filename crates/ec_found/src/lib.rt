@@ -19,3 +19,4 @@ pub use crate::error::FoundError;
 pub use crate::found::{Found, Unsaid, found_of};
 pub use crate::names::Word;
 pub use crate::read_back::{as_found, printed};
+pub use crate::text::unsaid_text;

@@ -17,6 +17,10 @@ const MOST: usize = 24;
 /// The byte of the general category that has the number of the device's name.
 const NAME: usize = 3;
 
+/// What to do about what a table can't say.
+const UNSAID_ADVICE: &str =
+    "To do: try a start-up by this table. A slave that needs what is left out refuses it.\n";
+
 /// A direction: its words in a table, and the category of its PDOs.
 #[derive(Clone, Copy)]
 struct Way {
@@ -137,6 +141,23 @@ pub(crate) fn table_text(
             write_variables(&mut text, &mut names, &row, OUT)?;
             write_variables(&mut text, &mut names, &row, IN)?;
         }
+    }
+    Ok(text)
+}
+
+/// What a table can't say of these slaves, for people: a line for each of which it can't say all, by its place and its name in the table,
+/// and what to do. Empty if there is none. The error says that memory ran out.
+pub fn unsaid_text(alloc: Global, shown: &[Shown], found: &[Found]) -> Result<String, AllocError> {
+    let rows = names_of(alloc, shown, found)?;
+    let mut text = String::new(alloc);
+    for (place, (one, row)) in found.iter().zip(rows.as_slice()).enumerate() {
+        if let Some(unsaid) = one.unsaid {
+            let (name, what) = (row.name.as_str(), comment_on(unsaid));
+            writeln!(text, "slave {place} `{name}`: {what}")?;
+        }
+    }
+    if !text.is_empty() {
+        text.push_str(UNSAID_ADVICE)?;
     }
     Ok(text)
 }
@@ -395,10 +416,13 @@ fn write_variable(
 fn comment_on(unsaid: Unsaid) -> &'static str {
     match unsaid {
         Unsaid::Mailbox =>
-            "its mailboxes take no CoE, or have a size or a place that a table can't have",
-        Unsaid::Managers => "its sync managers aren't as a table can have them",
-        Unsaid::Outputs => "it has outputs that a table can't have",
-        Unsaid::Inputs => "it has inputs that a table can't have",
+            "its mailboxes are left out: `mailbox` takes CoE, 16 to 1024 bytes, at 0x1000 or above",
+        Unsaid::Managers =>
+            "its sync managers are left out: `out_manager` and `in_manager` are two of 0 to 3 in the usual modes; beside a mailbox 2 and 3",
+        Unsaid::Outputs =>
+            "outputs of it are left out: `rxpdo` takes 16 PDOs of 0x1600 to 0x17FF, once each, of 64 entries of up to 64 bits",
+        Unsaid::Inputs =>
+            "inputs of it are left out: `txpdo` takes 16 PDOs of 0x1A00 to 0x1BFF, once each, of 64 entries of up to 64 bits",
         Unsaid::Assignment => "it says that its PDO assignment can't be written",
     }
 }

@@ -17,8 +17,12 @@ mod loops;
 #[cfg(test)]
 mod master;
 #[cfg(test)]
+mod names;
+#[cfg(test)]
 mod runs;
 #[cfg(test)]
 mod streams;
 #[cfg(test)]
 mod translate;
+#[cfg(test)]
+mod worlds;

@@ -3,7 +3,10 @@
 //! `tools/reach/run`, `tools/scan/run`).
 use crate::compare::expect_same;
 use crate::streams::{HandedOn, Sink, Source, nothing_handed_on, sink_of, source_of};
-use ec_app::{App, Console, InputStream, Origin, OutputStream, print_text, read_text, run_console};
+use ec_app::{
+    App, Console, InputStream, Origin, OutputStream, print_text, read_text, run_command,
+    run_console,
+};
 use std::alloc::Global;
 use std::fs::Files;
 use std::io::Read;
@@ -260,6 +263,45 @@ fn runs_over_streams_that_fail(rt: HostRuntime) {
     for run in &RUNS {
         expect_run(&rt, run);
     }
+}
+
+/// Runs the program over memory.
+fn run_over<H: AllocGlobal + Net + Files + Clock>(
+    rt: &H,
+    args: &[&str],
+    output: &mut Vec<u8>,
+    faults: &mut Vec<u8>,
+) -> u8 {
+    run_command(rt, args, &b"[["[..], output, faults, &mut OneByte)
+}
+
+/// Compares how a run over memory ends, what it prints and what it writes to standard error.
+fn expect_over_memory<H: AllocGlobal + Net + Files + Clock + Abort>(
+    rt: &H,
+    args: &[&str],
+    wanted: (u8, &str, &str),
+) {
+    let (mut output, mut faults) = (Vec::new(rt.alloc()), Vec::new(rt.alloc()));
+    let status = run_over(rt, args, &mut output, &mut faults);
+    expect_same(
+        rt,
+        &(status, output.as_slice(), faults.as_slice()),
+        &(wanted.0, wanted.1.as_bytes(), wanted.2.as_bytes()),
+        "a run over memory",
+    );
+}
+
+// A broadcast read of the AL status comes back from three slaves in INIT; and a text that is no table.
+#[test]
+fn runs_over_memory(rt: HostRuntime) {
+    let frame = "0e100701000030010200000000000000";
+    let back = "0e100701030030010200000001000300\n";
+    expect_over_memory(
+        &rt,
+        &["ecat", "pass", "--slaves", "3", frame],
+        (0, back, ""),
+    );
+    expect_over_memory(&rt, &["ecat", "plan"], (3, "", "ecat: 11 Toml\n"));
 }
 
 // A writer takes one byte at a time, and is interrupted before each.

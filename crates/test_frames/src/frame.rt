@@ -8,11 +8,13 @@ ghost use Rattle.ec_frame.specs.Datagram.{adp_of};
 ghost use Rattle.ec_frame.specs.Fields.{with_adp, with_counter, with_data};
 ghost use Rattle.ec_frame.specs.FieldChanges.{IsDatagram-with_adp, IsDatagram-with_counter};
 ghost use Rattle.ec_frame.specs.FieldChanges.{IsDatagram-with_data};
+ghost use Rattle.ec_frame.specs.Lending.{IsSomeLent};
 
-use crate::compare::{bytes_of, expect_row, expect_same};
+use crate::compare::{bytes_of, expect, expect_row, expect_same};
 use ec_frame::{
-    Builder, Command, Datagrams, Frame, Handler, Header, Sent, check, cut_counter, cut_heading,
-    pass, read_counter, read_data, write_address, write_adp, write_counter, write_pair,
+    Builder, Command, Datagram, Datagrams, Frame, FrameError, Handler, Header, Sent, check,
+    cut_counter, cut_heading, pass, read_counter, read_data, write_address, write_adp,
+    write_counter, write_pair,
 };
 use std::process::Abort;
 
@@ -84,8 +86,14 @@ fn builder_is_full_at_the_limit(rt: HostRuntime) {
     let frame = builder.finish();
     expect_same(
         &rt,
-        &(first, others, frame.len(), check(&frame)),
-        &(false, [false, true, false], 1472, Ok(2)),
+        &(
+            (first, others, frame.len()),
+            [check(&frame), check(&BROADCAST[..15])],
+        ),
+        &(
+            (false, [false, true, false], 1472),
+            [Ok(2), Err(FrameError::Short)],
+        ),
         "a full frame",
     );
 }
@@ -199,4 +207,75 @@ fn expect_fields(rt: &impl Abort, frame: &mut [u8]) {
 #[test]
 fn fields_are_read_and_written(rt: HostRuntime) {
     expect_fields(&rt, &mut bytes_of(&rt, CYCLE));
+}
+
+/// A broadcast read of the AL status, with index 1.
+const BROADCAST: [u8; 16] = [14, 16, 7, 1, 0, 0, 0x30, 1, 2, 0, 0, 0, 0, 0, 0, 0];
+
+/// What its one datagram is.
+const ASKED: Header = Header {
+    command: Command::Brd,
+    index: 1,
+    address: 0x0130_0000,
+    data_length: 2,
+    reserved: 0,
+    circulating: false,
+    more: false,
+    irq: 0,
+};
+
+/// The same with each field that can be written changed.
+const REWRITTEN: [u8; 16] = [14, 16, 4, 2, 1, 0x10, 0x10, 1, 2, 0, 4, 0, 8, 0, 3, 0];
+
+/// The header, the data and the working counter of the one datagram of a frame.
+fn read_only_one(rt: &impl Abort, frame: &mut [u8]) -> (Header, [u8; 2], u16) {
+    check(frame).expect(rt, "a frame");
+    let mut datagrams = Datagrams::new(frame);
+    expect(rt, datagrams.has_next(), "one datagram");
+    let datagram = datagrams.next(frame);
+    expect(rt, !datagrams.has_next(), "one datagram");
+    let data = datagram.data();
+    expect(
+        rt,
+        data.len() == 2 && datagram.part().len() == 14,
+        "one datagram",
+    );
+    (datagram.header(), [data[0], data[1]], datagram.counter())
+}
+
+/// Writes the data of a datagram.
+fn write_data(rt: &impl Abort, datagram: &mut Datagram<'_>, content: &[u8])
+    requires { IsSomeLent datagram.old }
+    ensures same_reference { datagram.new.frame.ghost_name ≡ datagram.old.frame.ghost_name }
+    ensures some { IsSomeLent datagram.new }
+{
+    expect(rt, datagram.data().len() == content.len(), "two bytes");
+    datagram.set_data(content);
+}
+
+/// Writes each field of the one datagram of a frame.
+fn write_only_one(rt: &impl Abort, frame: &mut [u8]) {
+    check(frame).expect(rt, "a frame");
+    let mut datagrams = Datagrams::new(frame);
+    expect(rt, datagrams.has_next(), "one datagram");
+    let mut datagram = datagrams.next(frame);
+    write_data(rt, &mut datagram, &[8, 0]);
+    datagram.set_command(Command::Fprd);
+    datagram.set_index(2);
+    datagram.set_address(0x0110_1001);
+    datagram.set_irq(4);
+    datagram.set_counter(3);
+}
+
+#[test]
+fn datagrams_are_read_and_written(rt: HostRuntime) {
+    let mut frame = BROADCAST;
+    let read = read_only_one(&rt, &mut frame);
+    write_only_one(&rt, &mut frame);
+    expect_same(
+        &rt,
+        &(read, frame),
+        &((ASKED, [0, 0], 0), REWRITTEN),
+        "a datagram",
+    );
 }

@@ -10,7 +10,7 @@ mod slaves;
 mod steps;
 mod troubles;
 
-use self::slaves::THREE_SLAVES;
+pub use self::slaves::{THREE_SLAVES, changed_ring};
 use self::steps::expect_steps;
 
 /// Start-ups that nothing disturbs, over slaves that are the plan's and others.

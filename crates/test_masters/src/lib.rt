@@ -1,4 +1,4 @@
-//! Start-ups over three slaves, and cycles of a master, each by the public calls of its crate.
+//! Frames past slaves in a row, start-ups over them, and cycles of a master, each by the public calls of its crate.
 #![tactic(auto)]
 
 #[cfg(test)]
@@ -7,3 +7,5 @@ mod bringup;
 mod cycle;
 #[cfg(test)]
 mod lines;
+#[cfg(test)]
+mod rings;

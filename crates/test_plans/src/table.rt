@@ -57,7 +57,7 @@ fn names_the_ends_of_links(rt: HostRuntime) {
 /// Whether a text states a table, or is refused as texts are, and not for want of memory.
 fn is_told(alloc: Global, text: &str) -> bool {
     match read_table(alloc, text).err() {
-        Some(error) => error.number() > 10 && error.number() < 16,
+        Some(error) => error.number() > 10 && error.number() < 16 && error.fault().is_some(),
         None => true,
     }
 }

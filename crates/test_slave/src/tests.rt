@@ -195,6 +195,7 @@ may_get > 00
 may_put > 00
 gets 0 >
 puts 0 07 > 00
+faults > 00
 outputs > 2312
 
 # A reset is power-on.

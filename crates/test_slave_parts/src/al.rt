@@ -4,11 +4,12 @@ use ec_al::{Al, Checks};
 use std::process::Abort;
 
 /// What is done to a state machine by its word, the control word of a request, whether it was taken, and the status word and the
-/// status code afterwards. `starts` is power-on; `asks` is a request whose checks all pass, `fails` one whose checks all fail,
-/// and `lacks_inputs` one where that of the inputs alone fails; `faults` is a fault of the application, which counts only in OP.
+/// status code afterwards. `starts` and `resets` are power-on; `asks` is a request whose checks all pass, `fails` one whose checks all
+/// fail, and `lacks_inputs` one where that of the inputs alone fails; `faults` is a fault of the application, which counts only in OP;
+/// `copies` is the step of a device without firmware.
 type Step = (&'static str, u16, bool, u16, u16);
 
-const STEPS: [Step; 26] = [
+const STEPS: [Step; 29] = [
     // INIT refuses what skips a state.
     ("starts", 0x0000, true, 0x0001, 0x0000),
     ("asks", 0x0004, true, 0x0011, 0x0011),
@@ -30,6 +31,10 @@ const STEPS: [Step; 26] = [
     ("faults", 0x0000, false, 0x0014, 0x0001),
     ("asks", 0x0008, true, 0x0014, 0x0001),
     ("asks", 0x0018, true, 0x0008, 0x0000),
+    // A reset leaves no error. Without firmware the status is the control word.
+    ("faults", 0x0000, true, 0x0014, 0x0001),
+    ("resets", 0x0000, true, 0x0001, 0x0000),
+    ("copies", 0x0011, true, 0x0011, 0x0000),
     // Checks refuse a wrong configuration: in INIT, in PREOP, and there that of the inputs alone.
     ("starts", 0x0000, true, 0x0001, 0x0000),
     ("fails", 0x0002, true, 0x0011, 0x0016),
@@ -54,6 +59,8 @@ fn checks_of(word: &str) -> Checks {
 fn take_step(rt: &impl Abort, al: &mut Al, word: &str, control: u16) -> bool {
     match word {
         "starts" => *al = Al::new(),
+        "resets" => al.reset(),
+        "copies" => al.copy(control),
         "faults" => return al.fault(),
         _ => {
             expect(rt, matches!(word, "asks" | "fails" | "lacks_inputs"), word);

@@ -125,13 +125,14 @@ fn bytes_that_are_stored(rt: HostRuntime) {
 }
 
 /// Addresses about the port of the SII, whether it is busy, and whether a byte that is written there counts.
-const WRITTEN: [(usize, bool, bool); 6] = [
+const WRITTEN: [(usize, bool, bool); 7] = [
     (SII_CONTROL - 1, false, false),
     (SII_CONTROL, false, true),
     (SII_CONTROL, true, false),
     (SII_ADDRESS + 3, false, true),
     (SII_DATA, false, false),
     (AL_CONTROL, true, true),
+    (AL_STATUS, false, false),
 ];
 
 #[test]

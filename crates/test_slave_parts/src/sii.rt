@@ -4,7 +4,7 @@ use crate::kinds::{MAILBOX, kind_with};
 use crate::rows::{bytes_of, expect, expect_same, parts, word_of};
 use ec_device::{Entry, Face, Identity, MAX_NAME, SlaveType};
 use ec_listed::Listed;
-use ec_sii::{Port, SiiImage};
+use ec_sii::{Image, Port};
 use std::alloc::AllocError;
 use std::process::Abort;
 
@@ -46,17 +46,14 @@ fn show_named(rt: &impl Abort, kind: &mut SlaveType, name: Listed<u8>) {
 }
 
 /// The image of a full slave of a type, whose name has three letters.
-fn named_image(
-    rt: &(impl AllocGlobal + Abort),
-    mut kind: SlaveType,
-) -> Result<SiiImage, AllocError> {
+fn named_image(rt: &(impl AllocGlobal + Abort), mut kind: SlaveType) -> Result<Image, AllocError> {
     let name = Listed::copied(rt.alloc(), b"do4").expect(rt, "memory");
     show_named(rt, &mut kind, name);
-    SiiImage::of(rt.alloc(), &kind, IDENTITY)
+    Image::of(rt.alloc(), &kind, IDENTITY)
 }
 
 /// The image of a full slave that takes no part in LRW, with 4 bits of outputs and 16 bits of inputs, the last 4 of them a gap.
-fn full_image(rt: &(impl AllocGlobal + Abort)) -> Result<SiiImage, AllocError> {
+fn full_image(rt: &(impl AllocGlobal + Abort)) -> Result<Image, AllocError> {
     let (outputs, inputs) = ([OUTPUT], [INPUT, GAP]);
     let kind = kind_with(
         rt,
@@ -69,17 +66,17 @@ fn full_image(rt: &(impl AllocGlobal + Abort)) -> Result<SiiImage, AllocError> {
 }
 
 /// That of a full slave that has nothing but its name.
-fn bare_image(rt: &(impl AllocGlobal + Abort)) -> Result<SiiImage, AllocError> {
+fn bare_image(rt: &(impl AllocGlobal + Abort)) -> Result<Image, AllocError> {
     named_image(rt, SlaveType::without_pdos(rt.alloc()))
 }
 
 /// That of a slave without a name that has nothing.
-fn plain_image(rt: &impl AllocGlobal) -> Result<SiiImage, AllocError> {
-    SiiImage::of(rt.alloc(), &SlaveType::without_pdos(rt.alloc()), IDENTITY)
+fn plain_image(rt: &impl AllocGlobal) -> Result<Image, AllocError> {
+    Image::of(rt.alloc(), &SlaveType::without_pdos(rt.alloc()), IDENTITY)
 }
 
 /// Compares the words of an image from an address on.
-fn expect_words(rt: &impl Abort, image: &SiiImage, line: &str, from: u16, words: &str) {
+fn expect_words(rt: &impl Abort, image: &Image, line: &str, from: u16, words: &str) {
     for (place, digits) in words.split(' ').enumerate() {
         let address = place.saturating_add(usize::from(from));
         let seen = (address, image.word(address));
@@ -88,7 +85,7 @@ fn expect_words(rt: &impl Abort, image: &SiiImage, line: &str, from: u16, words:
 }
 
 /// Compares the words that a line says: an address, and behind `>` the words from there on.
-fn expect_line(rt: &impl Abort, image: &SiiImage, line: &str) {
+fn expect_line(rt: &impl Abort, image: &Image, line: &str) {
     if !line.starts_with("#") {
         let (from, words) = parts(rt, line, " > ");
         expect_words(rt, image, line, word_of(rt, from), words);
@@ -96,7 +93,7 @@ fn expect_line(rt: &impl Abort, image: &SiiImage, line: &str) {
 }
 
 /// Compares the words of an image, as it is made.
-fn expect_image(rt: &impl Abort, image: Result<SiiImage, AllocError>, lines: &str) {
+fn expect_image(rt: &impl Abort, image: Result<Image, AllocError>, lines: &str) {
     let image = image.expect(rt, "memory");
     for line in lines.lines() {
         expect_line(rt, &image, line);
@@ -112,8 +109,8 @@ const IDENTITY_AND_MAILBOX: &str = "\
 
 #[test]
 fn an_image_spells_identity_and_mailbox(rt: HostRuntime) {
-    let with_mailbox = SiiImage::new(IDENTITY, Some(MAILBOX));
-    let without = SiiImage::new(IDENTITY, None);
+    let with_mailbox = Image::new(IDENTITY, Some(MAILBOX));
+    let without = Image::new(IDENTITY, None);
     expect_image(&rt, Ok(with_mailbox), IDENTITY_AND_MAILBOX);
     expect_image(&rt, Ok(without), "1c > 0000");
 }
@@ -220,7 +217,7 @@ fn expect_step(rt: &(impl AllocGlobal + Abort), port: &mut Port, line: &str) {
 }
 
 /// Takes the steps of lines on the port of an image.
-fn expect_steps(rt: &(impl AllocGlobal + Abort), image: SiiImage, lines: &str) {
+fn expect_steps(rt: &(impl AllocGlobal + Abort), image: Image, lines: &str) {
     let mut port = Port::new(image);
     for line in lines.lines() {
         expect_step(rt, &mut port, line);
@@ -228,7 +225,7 @@ fn expect_steps(rt: &(impl AllocGlobal + Abort), image: SiiImage, lines: &str) {
 }
 
 /// The same of an image as it is made.
-fn expect_port(rt: &(impl AllocGlobal + Abort), image: Result<SiiImage, AllocError>, lines: &str) {
+fn expect_port(rt: &(impl AllocGlobal + Abort), image: Result<Image, AllocError>, lines: &str) {
     expect_steps(rt, image.expect(rt, "memory"), lines);
 }
 
@@ -250,8 +247,8 @@ writes 0503 02 > 0020 3f000000 04030201";
 
 #[test]
 fn reads_of_an_identity(rt: HostRuntime) {
-    expect_steps(&rt, SiiImage::new(IDENTITY, None), A_READ);
-    expect_steps(&rt, SiiImage::new(IDENTITY, None), PAST_THE_IMAGE);
+    expect_steps(&rt, Image::new(IDENTITY, None), A_READ);
+    expect_steps(&rt, Image::new(IDENTITY, None), PAST_THE_IMAGE);
 }
 
 /// A full image is read to its end: the flags of the last entry and the end mark (0x84); behind it; the last two words (0xbe);

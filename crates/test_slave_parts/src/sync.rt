@@ -6,6 +6,7 @@
 //! |---|---|
 //! | `configures START LENGTH CONTROL ACTIVATE` | it gets settings |
 //! | `locks BYTE` | its deactivate bit is set, or cleared where the byte is 00 |
+//! | `awaits BYTE` | its firmware awaits a value, or none where the byte is 00 |
 //! | `writes ADDRESS ROW > 01` | the ring writes bytes from an address on; 00 where it may not, as in all that follows |
 //! | `ends FIRST LAST > 01` | it writes 0 at two bytes, and none between |
 //! | `reads ADDRESS LENGTH > 01`, `touches ADDRESS ROW > 01` | it reads so many bytes, or as many as the row has |
@@ -14,7 +15,7 @@
 //! | `sends ROW > 01`, `takes > 01` | the firmware puts a message, takes one |
 //! | `published > ROW`, `shown > ROW`, `message > ROW` | what is published, what the ring sees, the message |
 //! | `register PLACE > BYTE`, `shown_byte ADDRESS > BYTE` | a byte of its registers, a byte that the ring sees |
-//! | `is_set > 01`, `is_enabled > 01`, `governs ADDRESS > 01` | whether it is set, is enabled, governs a byte |
+//! | `is_set > 01`, `is_enabled > 01`, `is_awaited > 01`, `governs ADDRESS > 01` | whether it is set, is enabled, is awaited, governs a byte |
 //! | `first > ADDRESS`, `value_end > ADDRESS`, `span_end > ADDRESS` | where it lies |
 //! | `# WORDS` | nothing |
 ghost use Rattle.std.specs.Prelude.{◌==◌, ◌||◌, ◌+◌, ◌-◌, length, slice_range};
@@ -22,7 +23,7 @@ ghost use Rattle.ec_bits.specs.Bits.{within, zeros};
 
 use crate::rows::{byte_of, bytes_of, expect, expect_same, halves, parts, word_of};
 use ec_regs::SyncManagerSettings;
-use ec_sync::{Reach, SyncManager, Touching, Writing};
+use ec_sync::{Manager, Reach, Touching, Writing};
 use std::alloc::AllocError;
 use std::process::Abort;
 
@@ -107,47 +108,47 @@ fn places_of(rt: &impl Abort, about: &str) -> (usize, usize) {
 }
 
 /// The ring writes bytes from an address on.
-fn are_written(manager: &mut SyncManager, from: usize, bytes: &[u8]) -> bool {
+fn are_written(manager: &mut Manager, from: usize, bytes: &[u8]) -> bool {
     manager.ring_write(&Range { from, bytes })
 }
 
 /// The same of a row.
-fn is_row_written(rt: &(impl AllocGlobal + Abort), manager: &mut SyncManager, about: &str) -> bool {
+fn is_row_written(rt: &(impl AllocGlobal + Abort), manager: &mut Manager, about: &str) -> bool {
     let (from, row) = parts(rt, about, " ");
     are_written(manager, place_of(rt, from), &bytes_of(rt, row))
 }
 
 /// The ring reads as many bytes as there are.
-fn are_touched(manager: &mut SyncManager, from: usize, bytes: &[u8]) -> bool {
+fn are_touched(manager: &mut Manager, from: usize, bytes: &[u8]) -> bool {
     manager.ring_read(&Range { from, bytes })
 }
 
 /// The same of a row.
-fn is_row_touched(rt: &(impl AllocGlobal + Abort), manager: &mut SyncManager, about: &str) -> bool {
+fn is_row_touched(rt: &(impl AllocGlobal + Abort), manager: &mut Manager, about: &str) -> bool {
     let (from, row) = parts(rt, about, " ");
     are_touched(manager, place_of(rt, from), &bytes_of(rt, row))
 }
 
 /// The ring writes 0 at two bytes.
-fn are_ends_written(rt: &impl Abort, manager: &mut SyncManager, about: &str) -> bool {
+fn are_ends_written(rt: &impl Abort, manager: &mut Manager, about: &str) -> bool {
     let (first, last) = places_of(rt, about);
     manager.ring_write(&Ends { first, last })
 }
 
 /// The ring reads bytes.
-fn is_read(rt: &impl Abort, manager: &mut SyncManager, about: &str) -> bool {
+fn is_read(rt: &impl Abort, manager: &mut Manager, about: &str) -> bool {
     let (from, len) = places_of(rt, about);
     manager.ring_read(&Reach { from, len })
 }
 
 /// The application puts a byte.
-fn is_put(rt: &impl Abort, manager: &mut SyncManager, about: &str) -> bool {
+fn is_put(rt: &impl Abort, manager: &mut Manager, about: &str) -> bool {
     let (place, byte) = parts(rt, about, " ");
     manager.app_put(place_of(rt, place), byte_of(rt, byte))
 }
 
 /// The application puts all bytes at once, if it may.
-fn are_all_put(manager: &mut SyncManager, bytes: &[u8]) -> bool {
+fn are_all_put(manager: &mut Manager, bytes: &[u8]) -> bool {
     if manager.may_app_put() && manager.published().len() == bytes.len() {
         manager.app_put_all(bytes);
         return true;
@@ -156,7 +157,7 @@ fn are_all_put(manager: &mut SyncManager, bytes: &[u8]) -> bool {
 }
 
 /// The application gets all bytes at once, if it may.
-fn are_all_got(manager: &mut SyncManager) -> bool {
+fn are_all_got(manager: &mut Manager) -> bool {
     if manager.may_app_get() {
         manager.app_get_all();
         return true;
@@ -167,7 +168,7 @@ fn are_all_got(manager: &mut SyncManager) -> bool {
 /// What only asks, or is granted or not.
 fn is_granted(
     rt: &(impl AllocGlobal + Abort),
-    manager: &mut SyncManager,
+    manager: &mut Manager,
     word: &str,
     about: &str,
 ) -> bool {
@@ -183,6 +184,7 @@ fn is_granted(
         "takes" => manager.mailbox_take(),
         "is_set" => manager.is_set(),
         "is_enabled" => manager.is_enabled(),
+        "is_awaited" => manager.is_awaited(),
         "governs" => manager.governs(place_of(rt, about)),
         _ => {
             expect(rt, false, word);
@@ -194,7 +196,7 @@ fn is_granted(
 /// A byte that is seen, or none.
 fn byte_seen(
     rt: &(impl AllocGlobal + Abort),
-    manager: &mut SyncManager,
+    manager: &mut Manager,
     word: &str,
     about: &str,
 ) -> Option<u8> {
@@ -234,7 +236,7 @@ fn assert_address(rt: &(impl AllocGlobal + Abort), at: Place<'_>, address: usize
 /// Takes the step of a line, and compares what is seen.
 fn expect_seen(
     rt: &(impl AllocGlobal + Abort),
-    manager: &mut SyncManager,
+    manager: &mut Manager,
     at: Place<'_>,
     (word, about): (&str, &str),
     row: &str,
@@ -243,6 +245,7 @@ fn expect_seen(
         "#" => {}
         "configures" => manager.configure(settings_of(rt, about)),
         "locks" => manager.set_locked(byte_of(rt, about) != 0),
+        "awaits" => manager.await_value(byte_of(rt, about) != 0),
         "published" => assert_row(rt, at, manager.published(), row),
         "shown" => assert_row(rt, at, manager.visible(), row),
         "message" => assert_row(rt, at, manager.message().unwrap_or(b"none"), row),
@@ -254,13 +257,13 @@ fn expect_seen(
 }
 
 /// Takes a line apart, and its step.
-fn take_line(rt: &(impl AllocGlobal + Abort), manager: &mut SyncManager, at: Place<'_>) {
+fn take_line(rt: &(impl AllocGlobal + Abort), manager: &mut Manager, at: Place<'_>) {
     let (done, row) = halves(at.0, " >");
     expect_seen(rt, manager, at, halves(done, " "), row);
 }
 
 /// Takes the steps of a case.
-fn take_case(rt: &(impl AllocGlobal + Abort), manager: &mut SyncManager, case: &str) {
+fn take_case(rt: &(impl AllocGlobal + Abort), manager: &mut Manager, case: &str) {
     let (name, _) = halves(case, "\n");
     for line in case.lines() {
         take_line(rt, manager, (line, name));
@@ -268,11 +271,7 @@ fn take_case(rt: &(impl AllocGlobal + Abort), manager: &mut SyncManager, case: &
 }
 
 /// Takes the steps of a case on a manager as it is made, which goes away here.
-fn expect_case(
-    rt: &(impl AllocGlobal + Abort),
-    manager: Result<SyncManager, AllocError>,
-    case: &str,
-) {
+fn expect_case(rt: &(impl AllocGlobal + Abort), manager: Result<Manager, AllocError>, case: &str) {
     let mut manager = manager.expect(rt, "memory");
     take_case(rt, &mut manager, case);
 }
@@ -392,6 +391,18 @@ configures 1100 0002 24 01
 register 7 > 01
 is_enabled > 00
 
+# A value is awaited until the ring writes one, or the manager is emptied.
+configures 1100 0001 24 01
+awaits 01
+is_awaited > 01
+writes 1100 00 > 01
+gets 0 > 00
+gets 1 >
+is_awaited > 00
+awaits 01
+configures 1100 0001 24 01
+is_awaited > 00
+
 # bounds of a span with its three buffers, of a mailbox, and of a manager that isn't set
 configures 1100 0002 24 01
 first > 1100
@@ -415,6 +426,6 @@ governs 0000 > 00";
 #[test]
 fn managers(rt: HostRuntime) {
     for case in CASES.split("\n\n") {
-        expect_case(&rt, SyncManager::new(rt.alloc()), case);
+        expect_case(&rt, Manager::new(rt.alloc()), case);
     }
 }

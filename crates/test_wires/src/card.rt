@@ -7,10 +7,13 @@
 //! | `sends ROW`, `takes SIZE > ROW` | the wire sends a payload, or receives one into a buffer of so many bytes |
 //! | `gives ROW`, `meets > ROW` | the other end sends a frame, or receives one |
 //! | `failures > COUNT` | the faults of the wire so far |
-use crate::rows::{Line, assert_row, assert_same, bytes_of, expect, line_of, number_of};
+use crate::rows::{
+    Line, assert_row, assert_same, bytes_of, expect, expect_words, line_of, number_of,
+};
 use ec_card::{CardWire, Patience, Sender, framed, payload_of};
 use ec_frame::check;
 use ec_wire::{SocketFault, Trouble, Wire};
+use std::alloc::{AllocError, Global};
 use std::net::{Ipv4Addr, Net, SocketAddr, UdpSocket};
 use std::os::fd::IntoRawFd;
 use std::process::Abort;
@@ -24,9 +27,6 @@ const SENT: &str = "ffffffffffff 000000454301 88a4 0e100701000030010200000000000
 
 /// The same from a segment, which sets bit 1 of the source's first byte.
 const SENT_BACK: &str = "ffffffffffff 020000454301 88a4 0e100701000030010200000000000000 00x30";
-
-/// What comes back past three slaves, the first of which set that bit.
-const CAME: &str = "ffffffffffff 020000454301 88a4 0e100701030030010200000001000300 00x30";
 
 /// Compares the frame of a payload.
 fn expect_framed(rt: &(impl AllocGlobal + Abort), sender: Sender, payload: &str, frame: &str) {
@@ -49,52 +49,43 @@ fn frame_as_sent(rt: HostRuntime) {
     );
 }
 
-/// A frame that comes to someone, and of the payload that is handed on its size and how many datagrams it has.
-type Row = (Sender, &'static str, Option<(usize, Option<usize>)>);
+/// Frames that come to a master or a segment. Behind `>` stand the size of the payload that is handed on and how many datagrams it has,
+/// 0 if it is no frame; or `none`.
+const COMING: &str = "\
+master ffffffffffff 020000454301 88a4 0e100701030030010200000001000300 00x30 > 46 1
+master ffffffffffff 000000454301 88a4 0e100701000030010200000000000000 00x30 > none
+master ffffffffffff 020000454301 0800 450000000000000000000000 > none
+master ffffffffffff 020000454301 a488 0e1007010300300102000000 > none
+master ffffffffffff 020000454301 88 > none
+master > none
+segment ffffffffffff 020000454301 88a4 0e100701030030010200000001000300 00x30 > none
+master ffffffffffff 020000454301 88a4 > 0 0";
 
 /// What is handed on of a frame.
-fn handed_on(own: Sender, frame: &[u8]) -> Option<(usize, Option<usize>)> {
-    let payload = payload_of(own, frame)?;
-    Some((payload.len(), check(payload).ok()))
+fn handed_words(alloc: Global, own: Sender, frame: &[u8]) -> Result<String, AllocError> {
+    match payload_of(own, frame) {
+        None => String::from_str(alloc, "none"),
+        Some(payload) => {
+            let (size, count) = (payload.len(), check(payload).unwrap_or(0));
+            format!(in alloc; "{size} {count}")
+        }
+    }
 }
 
-fn expect_handed_on(rt: &(impl AllocGlobal + Abort), row: &Row) {
-    let met = handed_on(row.0, &bytes_of(rt, row.1));
-    assert_same(rt, &met, &row.2, row.1);
+fn expect_handed_on(rt: &(impl AllocGlobal + Abort), line: &Line<'_>) {
+    let own = match line.word {
+        "segment" => Sender::Segment,
+        _ => Sender::Master,
+    };
+    let frame = bytes_of(rt, line.about);
+    expect_words(rt, line, handed_words(rt.alloc(), own, &frame));
 }
 
+// The answer, padded; its own frame; IPv4, and 0xA488; a byte less than the heading, and nothing; a segment's own frame; the heading alone.
 #[test]
 fn frames_that_come(rt: HostRuntime) {
-    let rows: &[Row] = &[
-        // the answer, padded
-        (Sender::Master, CAME, Some((46, Some(1)))),
-        // its own frame
-        (Sender::Master, SENT, None),
-        // IPv4, and 0xA488
-        (
-            Sender::Master,
-            "ffffffffffff 020000454301 0800 450000000000000000000000",
-            None,
-        ),
-        (
-            Sender::Master,
-            "ffffffffffff 020000454301 a488 0e1007010300300102000000",
-            None,
-        ),
-        // a byte less than the heading
-        (Sender::Master, "ffffffffffff 020000454301 88", None),
-        (Sender::Master, "", None),
-        // a segment's own frame
-        (Sender::Segment, CAME, None),
-        // the heading alone
-        (
-            Sender::Master,
-            "ffffffffffff 020000454301 88a4",
-            Some((0, None)),
-        ),
-    ];
-    for row in rows {
-        expect_handed_on(&rt, row);
+    for line in COMING.lines() {
+        expect_handed_on(&rt, &line_of(line));
     }
 }
 

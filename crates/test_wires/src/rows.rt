@@ -2,6 +2,7 @@
 //! that doesn't hold: so nothing here has another way out, on which slaves, wires or bytes would go away.
 ghost use Rattle.std.specs.Prelude.{◌≡◌, true};
 
+use std::alloc::AllocError;
 use std::fmt::Debug;
 use std::process::Abort;
 
@@ -74,4 +75,10 @@ pub fn line_of(text: &str) -> Line<'_> {
 /// Compares bytes with the row of a line.
 pub fn assert_row(rt: &(impl AllocGlobal + Abort), line: &Line<'_>, met: &[u8]) {
     assert_same(rt, &met, &bytes_of(rt, line.row).as_slice(), line.text);
+}
+
+/// Compares words, as they are made, with what a line says.
+pub fn expect_words(rt: &impl Abort, line: &Line<'_>, words: Result<String, AllocError>) {
+    let words = words.expect(rt, "memory");
+    assert_same(rt, &words.as_str(), &line.row.trim(), line.text);
 }

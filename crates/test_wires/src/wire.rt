@@ -30,7 +30,7 @@ fn three_slaves(rt: HostRuntime) {
     expect_trials(
         &rt,
         THREE_SLAVES,
-        "start-ups, faults, refusal, spent wire, silence, loop",
+        "start-ups, rest, faults, refusal, spent wire, silence, loop",
     );
 }
 
@@ -61,14 +61,13 @@ fn wires_of_all_sizes(rt: HostRuntime) {
 fn payloads_past_the_room(rt: HostRuntime) {
     expect_memory(
         &rt,
-        &[
-            ("receive", (0, 1, 0)),
-            ("send", (0, 1, 0)),
-            ("send", (0, 2, 0)),
-            ("receive", (16, 2, 1)),
-            ("receive", (0, 3, 1)),
-            ("send", (0, 4, 1)),
-        ],
+        "\
+receive > 0 1 0
+send > 0 1 0
+send > 0 2 0
+receive > 16 2 1
+receive > 0 3 1
+send > 0 4 1",
     );
 }
 
@@ -79,36 +78,33 @@ fn segments_answer_frames(rt: HostRuntime) {
     expect_calls(
         &rt,
         "connected",
-        &[
-            ("client sends", 3, (0, 0, 0, 0)),
-            ("client asks", 0, (0, 0, 0, 0)),
-            ("serve", 2, (1, 1, 0, 0)),
-            ("client hears", 0, (16, 0, 0, 0)),
-        ],
+        "\
+client_sends 3 > 0 0 0 0
+client_asks 0 > 0 0 0 0
+serve 2 > 1 1 0 0
+client_hears 0 > 16 0 0 0",
     );
     expect_calls(
         &rt,
         "connected",
-        &[
-            ("gone asks", 0, (0, 0, 0, 0)),
-            ("gone asks", 0, (0, 0, 0, 0)),
-            ("gone asks", 0, (0, 0, 0, 0)),
-            ("serve", 3, (3, 0, 0, 0)),
-        ],
+        "\
+gone_asks 0 > 0 0 0 0
+gone_asks 0 > 0 0 0 0
+gone_asks 0 > 0 0 0 0
+serve 3 > 3 0 0 0",
     );
     expect_calls(
         &rt,
         "connected",
-        &[
-            ("stranger asks", 0, (0, 0, 0, 0)),
-            ("stranger asks", 0, (0, 0, 0, 0)),
-            ("stranger asks", 0, (0, 0, 0, 0)),
-            ("serve", 3, (3, 0, 0, 0)),
-            ("client asks", 0, (0, 0, 0, 0)),
-            ("serve", 1, (1, 0, 0, 0)),
-            ("client hears", 0, (16, 0, 0, 0)),
-            ("stranger hears", 0, (16, 0, 0, 0)),
-        ],
+        "\
+stranger_asks 0 > 0 0 0 0
+stranger_asks 0 > 0 0 0 0
+stranger_asks 0 > 0 0 0 0
+serve 3 > 3 0 0 0
+client_asks 0 > 0 0 0 0
+serve 1 > 1 0 0 0
+client_hears 0 > 16 0 0 0
+stranger_hears 0 > 16 0 0 0",
     );
 }
 
@@ -119,18 +115,17 @@ fn calls_of_sockets(rt: HostRuntime) {
     expect_calls(
         &rt,
         "connected",
-        &[
-            ("segment sends", 1, (0, 0, 0, 1)),
-            ("master sends", 1473, (0, 0, 1, 1)),
-            ("master receives", 0, (0, 0, 2, 1)),
-            ("master sends", 1472, (0, 0, 2, 1)),
-            ("segment receives", 0, (1472, 1472, 2, 1)),
-            ("stranger disturbs", 5, (0, 0, 2, 1)),
-            ("segment sends", 0, (0, 0, 2, 1)),
-            ("segment sends", 3, (0, 0, 2, 1)),
-            ("master receives", 0, (0, 0, 2, 1)),
-            ("master receives", 0, (3, 3, 2, 1)),
-        ],
+        "\
+segment_sends 1 > 0 0 0 1
+master_sends 1473 > 0 0 1 1
+master_receives 0 > 0 0 2 1
+master_sends 1472 > 0 0 2 1
+segment_receives 0 > 1472 1472 2 1
+stranger_disturbs 5 > 0 0 2 1
+segment_sends 0 > 0 0 2 1
+segment_sends 3 > 0 0 2 1
+master_receives 0 > 0 0 2 1
+master_receives 0 > 3 3 2 1",
     );
 }
 
@@ -141,16 +136,15 @@ fn masters_with_a_patience(rt: HostRuntime) {
     expect_calls(
         &rt,
         "patient",
-        &[
-            ("master receives", 0, (0, 0, 1, 0)),
-            ("master sends", 7, (0, 0, 1, 0)),
-            ("segment receives", 0, (7, 7, 1, 0)),
-            ("stranger disturbs", 5, (0, 0, 1, 0)),
-            ("segment sends", 3, (0, 0, 1, 0)),
-            ("master receives", 0, (3, 3, 1, 0)),
-            ("no patience", 0, (0, 0, 1, 0)),
-            ("port in use", 0, (0, 0, 1, 0)),
-        ],
+        "\
+master_receives 0 > 0 0 1 0
+master_sends 7 > 0 0 1 0
+segment_receives 0 > 7 7 1 0
+stranger_disturbs 5 > 0 0 1 0
+segment_sends 3 > 0 0 1 0
+master_receives 0 > 3 3 1 0
+no_patience 0 > 0 0 1 0
+port_in_use 0 > 0 0 1 0",
     );
 }
 
@@ -161,13 +155,12 @@ fn waits_a_second(rt: HostRuntime) {
     expect_calls(
         &rt,
         "idle",
-        &[
-            ("client misses", 5, (0, 0, 0, 0)),
-            ("segment receives", 0, (0, 0, 0, 1)),
-            ("nearby", 0, (1, 0, 0, 1)),
-            ("client sends", 1550, (0, 0, 0, 1)),
-            ("segment receives", 0, (1472, 1472, 0, 1)),
-        ],
+        "\
+client_misses 5 > 0 0 0 0
+segment_receives 0 > 0 0 0 1
+nearby 0 > 1 0 0 1
+client_sends 1550 > 0 0 0 1
+segment_receives 0 > 1472 1472 0 1",
     );
 }
 
@@ -190,24 +183,32 @@ fn texts_of_errors(rt: HostRuntime) {
     assert_same(&rt, &met, &(43, "Socket", 10), "numbers");
 }
 
-// What the system says of a socket, by the numbers of its errors on Linux.
+/// What the system says of a socket, by the numbers of its errors on Linux.
+const TROUBLES: &str = "\
+1 it isn't permitted
+9 the descriptor isn't open
+12 there is no memory for it
+13 it isn't permitted
+19 there is no such interface, or it is gone
+88 the descriptor is no socket
+98 the address is in use
+99 the address is none of this system's
+100 the interface is down
+101 there is no way to the address
+111 nobody listens at the address
+2 the system says error 2";
+
+/// The trouble of a line has these words.
+fn expect_trouble(rt: &(impl AllocGlobal + Abort), line: &str) {
+    let (number, text) = line.split_once(" ").expect(rt, line);
+    let number = number.parse::<i32>().expect(rt, number);
+    expect_said(rt, &Trouble::System(number), text);
+}
+
 #[test]
 fn texts_of_troubles(rt: HostRuntime) {
-    for (number, text) in [
-        (1, "it isn't permitted"),
-        (9, "the descriptor isn't open"),
-        (12, "there is no memory for it"),
-        (13, "it isn't permitted"),
-        (19, "there is no such interface, or it is gone"),
-        (88, "the descriptor is no socket"),
-        (98, "the address is in use"),
-        (99, "the address is none of this system's"),
-        (100, "the interface is down"),
-        (101, "there is no way to the address"),
-        (111, "nobody listens at the address"),
-        (2, "the system says error 2"),
-    ] {
-        expect_said(&rt, &Trouble::System(number), text);
+    for line in TROUBLES.lines() {
+        expect_trouble(&rt, line);
     }
     expect_said(&rt, &Trouble::Silence, "nothing came in time");
 }

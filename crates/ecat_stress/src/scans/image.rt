@@ -15,7 +15,11 @@ pub fn random_image(alloc: Global, random: &mut Random) -> Result<Vec<u16>, Allo
         words.push(header_word(random, address))?;
     }
     for _ in 0..random.place(12) {
-        push_category(random, &mut words)?;
+        if random.in_hundred(5) {
+            push_long_pdo(random, &mut words)?;
+        } else {
+            push_category(random, &mut words)?;
+        }
     }
     if random.in_hundred(80) {
         words.push(0xFFFF)?;
@@ -50,6 +54,18 @@ fn push_category(random: &mut Random, words: &mut Vec<u16>) -> Result<(), AllocE
     words.push(number)?;
     words.push(said)?;
     for _ in 0..size {
+        words.push(body_word(random))?;
+    }
+    Ok(())
+}
+
+/// Adds a category of one PDO with 255 entries.
+fn push_long_pdo(random: &mut Random, words: &mut Vec<u16>) -> Result<(), AllocError> {
+    words.push(if random.in_hundred(50) { 50 } else { 51 })?;
+    words.push(4 + 4 * 255)?;
+    words.push(0x1600 + random.below(0x600) as u16)?;
+    words.push(256 * random.below(5) as u16 + 255)?;
+    for _ in 0..2 + 4 * 255 {
         words.push(body_word(random))?;
     }
     Ok(())

@@ -47,7 +47,6 @@ pub struct Hostile {
     state: u8,
     /// The index and the subindex of the last request, three bytes.
     object: [u8; 3],
-    failures: u64,
 }
 
 impl Hostile {
@@ -64,7 +63,6 @@ impl Hostile {
             address: 0,
             state: 1,
             object: [0; 3],
-            failures: 0,
         })
     }
 
@@ -202,10 +200,11 @@ impl Hostile {
 impl Wire for Hostile {
     ghost use Rattle.ec_wire.specs.Wires.{silent};
 
-    ghost state = { λ w. silent w.failures };
+    // no call is a fault
+    ghost state = { λ _. silent 0 };
 
     fn failures(&self) -> u64 {
-        self.failures
+        0
     }
 
     fn trouble(&self) -> Trouble {

@@ -1,9 +1,10 @@
 //! Calls of wires, one after another: of one over memory, and of those at both ends of the system's sockets.
-use crate::rows::{assert_same, expect};
+use crate::rows::{Line, assert_same, expect, expect_words, line_of, number_of};
 use crate::wire::machines::{READ, machine_of, ring_of, wire_to};
 use crate::wire::tables::THREE_SLAVES;
 use ec_ring::Ring;
 use ec_wire::{Echo, MemoryWire, Patience, SocketFault, UdpWire, Wire, serve_segment};
+use std::alloc::{AllocError, Global};
 use std::net::{Ipv4Addr, Net, SocketAddr, SocketAddrV4, UdpSocket};
 use std::process::Abort;
 
@@ -32,9 +33,6 @@ fn receive<W: Wire>(wire: &mut W) -> (usize, usize) {
     (count, sevens_in(&buffer))
 }
 
-/// A call of a wire over memory, how many bytes are received, the faults and the received payloads so far.
-type MemoryRow = (&'static str, (usize, u64, usize));
-
 /// Sends the broadcast, or receives. How many bytes were received.
 fn bytes_of_call(wire: &mut MemoryWire, call: &str) -> usize {
     match call {
@@ -43,11 +41,21 @@ fn bytes_of_call(wire: &mut MemoryWire, call: &str) -> usize {
     }
 }
 
-fn expect_memory_calls(rt: &impl Abort, wire: &mut MemoryWire, rows: &[MemoryRow]) {
-    for row in rows {
-        let count = bytes_of_call(wire, row.0);
-        let seen = (count, wire.failures(), wire.received_count());
-        assert_same(rt, &(row.0, seen), row, "a call");
+/// How many bytes are received, the faults and the received payloads so far.
+fn memory_words(alloc: Global, count: usize, wire: &MemoryWire) -> Result<String, AllocError> {
+    let (failures, received) = (wire.failures(), wire.received_count());
+    format!(in alloc; "{count} {failures} {received}")
+}
+
+/// Makes the call of a line, and compares what is seen then.
+fn expect_memory_call(rt: &(impl AllocGlobal + Abort), wire: &mut MemoryWire, line: &Line<'_>) {
+    let count = bytes_of_call(wire, line.word);
+    expect_words(rt, line, memory_words(rt.alloc(), count, wire));
+}
+
+fn expect_memory_calls(rt: &(impl AllocGlobal + Abort), wire: &mut MemoryWire, lines: &str) {
+    for line in lines.lines() {
+        expect_memory_call(rt, wire, &line_of(line));
     }
 }
 
@@ -57,12 +65,26 @@ fn three_slaves(rt: &(impl AllocGlobal + Abort)) -> Ring {
 }
 
 /// Makes calls of a wire over memory to three slaves, with room for one payload.
-pub fn expect_memory(rt: &(impl AllocGlobal + Abort), rows: &[MemoryRow]) {
+pub fn expect_memory(rt: &(impl AllocGlobal + Abort), lines: &str) {
     let mut wire = wire_to(rt, three_slaves(rt), 1, u64::MAX);
-    expect_memory_calls(rt, &mut wire, rows);
+    expect_memory_calls(rt, &mut wire, lines);
 }
 
-/// A segment of three slaves with its socket, a master's, one of a client of the segment, and one of a stranger.
+/// A segment of three slaves with its socket, a master's, one of a client of the segment, and one of a stranger. Lines make calls of them:
+/// a call, a number, and behind `>` what is seen then. That is the bytes that are received and the sevens among them, or the payloads that
+/// are answered and refused; and the faults of the master and of the segment so far.
+///
+/// | Call | Does |
+/// |---|---|
+/// | `master_sends`, `segment_sends`, `client_sends` | a payload of so many sevens is sent |
+/// | `master_receives`, `segment_receives` | a payload is received |
+/// | `stranger_disturbs` | so many sevens are sent to the master |
+/// | `client_asks`, `stranger_asks`, `gone_asks` | the broadcast is sent to the segment, also by a client that is gone then |
+/// | `client_hears`, `stranger_hears` | the answer to it comes back from the segment |
+/// | `serve` | the segment serves so many payloads |
+/// | `client_misses` | so many sevens are sent to the segment's port on 127.0.0.2 |
+/// | `nearby` | a socket on that port of 127.0.0.2, which a segment on all addresses would hold |
+/// | `no_patience`, `port_in_use` | a master that waits no time, and a second segment on that port, are no sockets |
 #[derive(Drop)]
 struct Ends {
     ring: Ring,
@@ -71,22 +93,6 @@ struct Ends {
     client: UdpSocket,
     stranger: UdpSocket,
 }
-
-/// A call of one of them, and what is seen then: the bytes that are received and the sevens among them, or the payloads that are
-/// answered and refused; and the faults of the master and of the segment so far.
-///
-/// | Call | Does |
-/// |---|---|
-/// | `master sends`, `segment sends`, `client sends` | a payload of so many sevens is sent |
-/// | `master receives`, `segment receives` | a payload is received |
-/// | `stranger disturbs` | so many sevens are sent to the master |
-/// | `client asks`, `stranger asks`, `gone asks` | the broadcast is sent to the segment, also by a client that is gone then |
-/// | `client hears`, `stranger hears` | the answer to it comes back from the segment |
-/// | `serve` | the segment serves so many payloads |
-/// | `client misses` | so many sevens are sent to the segment's port on 127.0.0.2 |
-/// | `nearby` | a socket on that port of 127.0.0.2, which a segment on all addresses would hold |
-/// | `no patience`, `port in use` | a master that waits no time, and a second segment on that port, are no sockets |
-pub type Row = (&'static str, usize, (usize, usize, u64, u64));
 
 /// A port on 127.0.0.1.
 fn here(port: u16) -> SocketAddr {
@@ -142,10 +148,10 @@ fn seen_of_wires(
     sevens: &[u8],
 ) -> (usize, usize) {
     match call {
-        "master sends" => send(&mut ends.master, sevens),
-        "master receives" => receive(&mut ends.master),
-        "segment sends" => send(&mut ends.segment, sevens),
-        "segment receives" => receive(&mut ends.segment),
+        "master_sends" => send(&mut ends.master, sevens),
+        "master_receives" => receive(&mut ends.master),
+        "segment_sends" => send(&mut ends.segment, sevens),
+        "segment_receives" => receive(&mut ends.segment),
         "serve" => serve(rt, ends, sevens.len().min(1500) as u32),
         _ => {
             expect(rt, false, call);
@@ -163,32 +169,43 @@ fn seen_of_call(
 ) -> (usize, usize) {
     let port = ends.segment.port();
     match call {
-        "client sends" => send_to(rt, &ends.client, here(port), sevens),
-        "client misses" => send_to(rt, &ends.client, near(port), sevens),
-        "client asks" => send_to(rt, &ends.client, here(port), &READ),
-        "client hears" => hear(rt, &ends.client, port),
-        "stranger disturbs" => send_to(rt, &ends.stranger, here(ends.master.port()), sevens),
-        "stranger asks" => send_to(rt, &ends.stranger, here(port), &READ),
-        "stranger hears" => hear(rt, &ends.stranger, port),
-        "gone asks" => send_to(rt, &socket_of(rt), here(port), &READ),
+        "client_sends" => send_to(rt, &ends.client, here(port), sevens),
+        "client_misses" => send_to(rt, &ends.client, near(port), sevens),
+        "client_asks" => send_to(rt, &ends.client, here(port), &READ),
+        "client_hears" => hear(rt, &ends.client, port),
+        "stranger_disturbs" => send_to(rt, &ends.stranger, here(ends.master.port()), sevens),
+        "stranger_asks" => send_to(rt, &ends.stranger, here(port), &READ),
+        "stranger_hears" => hear(rt, &ends.stranger, port),
+        "gone_asks" => send_to(rt, &socket_of(rt), here(port), &READ),
         "nearby" => (usize::from(UdpSocket::bind(rt, near(port)).is_ok()), 0),
-        "no patience" => (usize::from(patient(rt, port, 0).is_ok()), 0),
-        "port in use" => (usize::from(UdpWire::bind(rt, port).is_ok()), 0),
+        "no_patience" => (usize::from(patient(rt, port, 0).is_ok()), 0),
+        "port_in_use" => (usize::from(UdpWire::bind(rt, port).is_ok()), 0),
         _ => seen_of_wires(rt, ends, call, sevens),
     }
 }
 
-fn expect_rows(rt: &(impl Net + Abort), ends: &mut Ends, rows: &[Row]) {
-    for row in rows {
-        let (call, len, _) = *row;
-        let (count, other) = seen_of_call(rt, ends, call, &[7; 1600][..len.min(1600)]);
-        let seen = (
-            count,
-            other,
-            ends.master.failures(),
-            ends.segment.failures(),
-        );
-        assert_same(rt, &(call, len, seen), row, "a call");
+/// What is seen of a call.
+fn call_words(
+    alloc: Global,
+    seen: (usize, usize),
+    faults: (u64, u64),
+) -> Result<String, AllocError> {
+    let (count, other) = seen;
+    let (master, segment) = faults;
+    format!(in alloc; "{count} {other} {master} {segment}")
+}
+
+/// Makes the call of a line, and compares what is seen then.
+fn expect_call(rt: &(impl Net + AllocGlobal + Abort), ends: &mut Ends, line: &Line<'_>) {
+    let len = number_of(rt, line.about).min(1600);
+    let seen = seen_of_call(rt, ends, line.word, &[7; 1600][..len]);
+    let faults = (ends.master.failures(), ends.segment.failures());
+    expect_words(rt, line, call_words(rt.alloc(), seen, faults));
+}
+
+fn expect_lines(rt: &(impl Net + AllocGlobal + Abort), ends: &mut Ends, lines: &str) {
+    for line in lines.lines() {
+        expect_call(rt, ends, &line_of(line));
     }
 }
 
@@ -224,6 +241,6 @@ fn ends_of(rt: &(impl Net + AllocGlobal + Abort), kind: &str) -> Ends {
 }
 
 /// Makes calls of sockets.
-pub fn expect_calls(rt: &(impl Net + AllocGlobal + Abort), kind: &str, rows: &[Row]) {
-    expect_rows(rt, &mut ends_of(rt, kind), rows);
+pub fn expect_calls(rt: &(impl Net + AllocGlobal + Abort), kind: &str, lines: &str) {
+    expect_lines(rt, &mut ends_of(rt, kind), lines);
 }

@@ -132,7 +132,13 @@ fn seen_in_silence<H: Clock + Abort>(rt: &H, master: &mut Master<'_>) -> (usize,
     (report.missing(), report.is_taken(), value_of(master, 3))
 }
 
-/// Once its slaves have come up a cycle on whose wire nothing comes back has a report.
+/// Whether a cycle on whose wire answers may be lost is taken.
+fn is_taken<H: Clock + Abort>(rt: &H, master: &mut Master<'_>, wire: &mut MemoryWire) -> bool {
+    let report = run_lossy_cycle(master, wire, rt).expect(rt, "a report");
+    report.is_taken()
+}
+
+/// Once its slaves have come up a cycle that may lose answers is taken, and one on whose wire nothing comes back has a report.
 pub fn expect_silence<H: AllocGlobal + Clock + Abort>(
     rt: &H,
     machine: &Machine,
@@ -140,9 +146,15 @@ pub fn expect_silence<H: AllocGlobal + Clock + Abort>(
 )
     requires { master.old.plan ≡ plan_of machine.now }
 {
-    brought_up(rt, machine, master, 0);
+    let mut wire = wire_to(rt, brought_up(rt, machine, master, 0), 100, u64::MAX);
+    let is_taken = is_taken(rt, master, &mut wire);
     let seen = seen_in_silence(rt, master);
-    assert_same(rt, &seen, &(1, false, 0), "silence");
+    assert_same(
+        rt,
+        &(is_taken, seen),
+        &(true, (1, false, 0)),
+        "a cycle, and silence",
+    );
 }
 
 /// Whether a cycle was taken by a counter of 6.

@@ -4,8 +4,9 @@ use crate::wire::fakes::Fake;
 use crate::wire::machines::{ring_of, startup_of, wire_to};
 use ec_link::Machine;
 use ec_start::{StartError, Startup};
-use ec_wire::{Wire, bring_up_wire};
+use ec_wire::{Wire, bring_up_resting, bring_up_wire};
 use std::process::Abort;
+use std::time::Clock;
 
 /// How a start-up ended, and its next number.
 type Ended = (&'static str, u64);
@@ -28,6 +29,15 @@ fn run<W: Wire>(startup: &mut Startup<'_>, wire: &mut W) -> Ended {
 /// A start-up over memory ends so whose call of this number is a fault.
 type Row = (u64, Ended);
 
+const ROWS: [Row; 6] = [
+    (u64::MAX, ("ready", 75)),
+    (150, ("ready", 75)),
+    (0, ("lost", 1)),
+    (1, ("lost", 1)),
+    (74, ("lost", 38)),
+    (149, ("lost", 75)),
+];
+
 /// How it ends.
 fn ended(rt: &(impl AllocGlobal + Abort), machine: &Machine, call: u64) -> Ended {
     let mut startup = startup_of(rt, machine, 0);
@@ -37,8 +47,8 @@ fn ended(rt: &(impl AllocGlobal + Abort), machine: &Machine, call: u64) -> Ended
     )
 }
 
-fn expect_rows(rt: &(impl AllocGlobal + Abort), machine: &Machine, rows: &[Row]) {
-    for row in rows {
+fn expect_rows(rt: &(impl AllocGlobal + Abort), machine: &Machine) {
+    for row in &ROWS {
         assert_same(rt, &(row.0, ended(rt, machine, row.0)), row, row.1.0);
     }
 }
@@ -57,17 +67,19 @@ fn expect_lost(rt: &impl Abort, machine: &Machine) {
 
 /// Start-ups of a machine over memory, each with a fault or none, and over strange payloads.
 pub fn expect_ends(rt: &(impl AllocGlobal + Abort), machine: &Machine) {
-    expect_rows(
-        rt,
-        machine,
-        &[
-            (u64::MAX, ("ready", 75)),
-            (150, ("ready", 75)),
-            (0, ("lost", 1)),
-            (1, ("lost", 1)),
-            (74, ("lost", 38)),
-            (149, ("lost", 75)),
-        ],
-    );
+    expect_rows(rt, machine);
     expect_lost(rt, machine);
+}
+
+/// A start-up over memory that may rest ends ready as well.
+pub fn expect_rested<H: AllocGlobal + Abort + Clock>(rt: &H, machine: &Machine) {
+    let mut startup = startup_of(rt, machine, 0);
+    let mut wire = wire_to(rt, ring_of(rt, machine), 75, u64::MAX);
+    bring_up_resting(&mut startup, &mut wire, rt);
+    assert_same(
+        rt,
+        &(end_of(&startup), wire.failures()),
+        &("ready", 0),
+        "a start-up at rest",
+    );
 }

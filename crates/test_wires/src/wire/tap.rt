@@ -93,15 +93,16 @@ fn expect_noted(rt: &(impl AllocGlobal + Abort), row: &Row) {
 }
 
 // Payloads are noted as they pass; a segment sends what has passed; faults are not noted.
+const ROWS: [Row; 4] = [
+    (Side::Master, 9, (16, 0), SENT, PASSED),
+    (Side::Segment, 9, (16, 0), PASSED, SENT),
+    (Side::Master, 0, (0, 2), "", ""),
+    (Side::Master, 1, (0, 1), SENT, ""),
+];
+
 #[test]
 fn payloads_in_captures(rt: HostRuntime) {
-    let rows: &[Row] = &[
-        (Side::Master, 9, (16, 0), SENT, PASSED),
-        (Side::Segment, 9, (16, 0), PASSED, SENT),
-        (Side::Master, 0, (0, 2), "", ""),
-        (Side::Master, 1, (0, 1), SENT, ""),
-    ];
-    for row in rows {
+    for row in &ROWS {
         expect_noted(&rt, row);
     }
 }

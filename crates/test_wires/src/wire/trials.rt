@@ -6,7 +6,7 @@ ghost use Rattle.ec_link.specs.Plan.{plan_of};
 use crate::rows::expect;
 use crate::wire::cycles::{expect_error, expect_faults, expect_loop, expect_silence, expect_spent};
 use crate::wire::machines::{machine_of, master_of};
-use crate::wire::startups::expect_ends;
+use crate::wire::startups::{expect_ends, expect_rested};
 use ec_cycle::{CycleError, Master};
 use ec_link::Machine;
 use ec_wire::RunError;
@@ -28,6 +28,7 @@ fn expect_trial(
 {
     match trial {
         "start-ups" => expect_ends(rt, machine),
+        "rest" => expect_rested(rt, machine),
         "faults" => expect_faults(rt, machine, master, (1, 3), 1),
         "faults of many" => expect_faults(rt, machine, master, (0, 1), 13),
         "refusal" => expect_error(rt, master, NOT_READY),
