@@ -190,8 +190,8 @@ ECAT_CALL size_t ecat_next(struct ecat *m, uint8_t *frame, size_t room) {
 }
 
 /* Returns true if the frame that `ecat_next` wrote last asks again what the frame before it asked, so that you may rest before you
-   send it: 1 ms, say. Frames that write process data don't count as frames before it. Returns false for any other frame, or without a
-   handle. */
+   send it: 10 ms, say, since real devices may take seconds, and a wait has at most 1000 polls. Frames that write process data don't
+   count as frames before it. Returns false for any other frame, or without a handle. */
 ECAT_CALL bool ecat_waits(const struct ecat *m) {
     struct ecat same = {ECAT_NONE};
     if (!m || !m->at) return false;

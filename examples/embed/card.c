@@ -66,7 +66,7 @@ int main(int argc, char **argv) {
     if (ecat_open(&m, table, len, &refusal)) { fprintf(stderr, "card: %d %s\n", refusal.number, refusal.name); return 3; }
     int card = open_card(argv[1]);
     while (ecat_phase(&m) == 0 && (len = ecat_next(&m, sent + HEADING, ECAT_FRAME)) != 0) {
-        if (ecat_waits(&m)) poll(NULL, 0, 1);
+        if (ecat_waits(&m)) poll(NULL, 0, 10);
         send_frame(card, len);
         while ((len = receive_frame(card)) != 0 && !ecat_take(&m, came + HEADING, len, NULL)) {}
         if (!len) ecat_give_up(&m);

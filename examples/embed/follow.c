@@ -35,7 +35,7 @@ static size_t receive(int wire) {
 static bool start_up(struct ecat *m, int wire) {
     size_t len;
     while (ecat_phase(m) == 0 && (len = ecat_next(m, sent, sizeof sent)) != 0) {
-        if (ecat_waits(m)) poll(NULL, 0, 1);
+        if (ecat_waits(m)) poll(NULL, 0, 10);
         send(wire, sent, len, 0);
         while ((len = receive(wire)) != 0 && !ecat_take(m, came, len, NULL)) {}
         if (len == 0) ecat_give_up(m);

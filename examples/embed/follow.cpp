@@ -83,7 +83,7 @@ public:
         while (ecat_phase(&m_) == 0) {
             std::size_t len = ecat_next(&m_, frame_.data(), frame_.size());
             if (len == 0) break;
-            if (ecat_waits(&m_)) std::this_thread::sleep_for(std::chrono::milliseconds(1));
+            if (ecat_waits(&m_)) std::this_thread::sleep_for(std::chrono::milliseconds(10));
             wire.send(frame_, len);
             while ((len = wire.receive(payload_)) != 0 && !ecat_take(&m_, payload_.data(), len, nullptr)) {}
             if (len == 0) ecat_give_up(&m_);

@@ -37,7 +37,7 @@ static int quantile(const int *counts, int64_t millionths) {
 static bool start_up(void) {
     size_t len;
     while (ecat_phase(&m) == 0 && (len = ecat_next(&m, wire_room(&wire), ECAT_FRAME)) != 0) {
-        if (ecat_waits(&m)) poll(NULL, 0, 1);
+        if (ecat_waits(&m)) poll(NULL, 0, 10);
         int64_t end = nanoseconds() + 500000000;
         wire_send(&wire, len);
         while ((len = wire_receive(&wire, end)) != 0 && !ecat_take(&m, wire_came(&wire), len, NULL)) {}

@@ -20,8 +20,8 @@ from ecat._library import FRAME, VERSION, Info, Owner, Refusal, Refused, lib, wr
 from ecat.segment import Segment
 
 __all__ = ["FRAME", "VERSION", "Failed", "Master", "Refused", "Report", "Segment", "State", "Variable", "Wire"]
-# the most bytes of the words for a failure, and the seconds between two polls of a start-up
-WORDS, REST = 512, 0.001
+# the most bytes of the words for a failure; the place of a frame's second command, and commands that write process data
+WORDS, COMMAND, WRITES = 512, 24, (11, 12)
 
 
 class Failed(Exception):
@@ -157,11 +157,15 @@ class Master(Owner):
         return written(lib.ecat_inputs, self._handle)
 
     def bring_up(self, wire: Wire) -> None:
-        """Sends each frame of the start-up, and receives until its answer came; rests before a poll that asks again. Raises Failed if an
-        answer doesn't come, or the start-up fails."""
+        """Sends each frame of the start-up, and receives until its answer came. Between two polls of one wait it rests: not for the first
+        10, then 1 ms up to the 100th, then 10 ms. Raises Failed if an answer doesn't come, or the start-up fails."""
+        polls = 0
         while frame := self.next():
             if self.waits():
-                time.sleep(REST)
+                polls += 1
+                time.sleep(0 if polls < 10 else 0.001 if polls < 100 else 0.01)
+            elif frame[COMMAND] not in WRITES:
+                polls = 0
             wire.send(frame)
             while (payload := wire.receive()) and not self.take(payload):
                 pass

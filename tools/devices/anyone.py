@@ -3,7 +3,7 @@ from __future__ import annotations
 
 import random
 
-from coe import Coe
+from coe import EOE, Coe, emergency
 from esc import NO_LRW, Chip
 from rows import Row
 from slave import PREOP, SAFEOP, Area, Pdo, Slave, Smart, Variable
@@ -52,6 +52,32 @@ def any_managers(chance: random.Random, has_mailbox: bool, outputs: tuple[Pdo, .
     return 2 if not inputs and out == 3 else out, 3 if not outputs and into == 2 else into
 
 
+def any_mailbox(chance: random.Random) -> dict[str, object]:
+    """A mailbox and what its firmware does there: parameters that it wants, messages that nobody asked for, replies that are late, or of
+    another size."""
+    size, settings, init = chance.choice((16, 40, 128)), {}, []
+    for sub in range(1, 1 + chance.choice((0, 0, 1, 5))):
+        settings[0x8000, sub] = 0, (count := chance.choice((1, 2, 4)))
+        init.append((0x8000, sub, 8 * count, chance.randint(-(1 << 8 * count - 1), (1 << 8 * count) - 1)))
+    said = chance.choice(((), (emergency(0x5000),), (emergency(0xFF00, 0x81, b"hello"), (EOE, bytes(10)))))
+    return {
+        "mailbox": (0x1000, size, 0x1080, size), "settings": settings, "init": tuple(init), "own_init": tuple(chance.sample(init, len(init) // 2)),
+        "greetings": said, "is_chatty": bool(said) and chance.random() < 0.3, "fixed": chance.random() < 0.3,
+        "is_unsized": chance.random() < 0.2, "is_wide": chance.random() < 0.2, "sdo_time": chance.choice((0.0, 0.0, 0.004))}
+
+
+def any_fault(chance: random.Random, settings: dict[tuple[int, int], tuple[int, int]], pdos: tuple[Pdo, ...]) -> dict[str, object]:
+    """What makes a mailbox end a start-up, if it comes to that: it refuses a parameter, maps something else, falls silent, or answers
+    something else."""
+    faults = [{"takes": chance.randint(0, 4)}, {"is_keeping": True}, {"is_wrong": True}, {"is_beside": True}, {"is_erring": True},
+              {"greetings": (emergency(0x5000),), "is_chatty": True, "answers": chance.randint(0, 4)}, {"late": {(0x1C12, 0): 20.0, (0x1C13, 0): 20.0}}]
+    for key, (_, size) in settings.items():
+        rest = {one: value for one, value in settings.items() if one != key}
+        faults += [{"settings": rest}, {"settings": settings | {key: (0, size % 4 + 1)}}, {"highest": {key: 0}}]
+    faults += [{"mapped": {pdo.index: (*pdo.entries, (0x2000, 1, 8))}} for pdo in pdos]
+    return chance.choice(faults)
+
+
 def any_device(chance: random.Random, name: str) -> type[Slave]:
     """With firmware or without, whose outputs then are pins; with a mailbox or without."""
     has_firmware = chance.random() < 0.6
@@ -71,8 +97,9 @@ def any_device(chance: random.Random, name: str) -> type[Slave]:
         has_outputs = any(pdo.bits for pdo in outputs)
         sheet |= {"patience": chance.choice((None, 0.0, 5.0)) if has_outputs else None, "delays": chance.choice(({}, {PREOP: 0.02, SAFEOP: 0.01}))}
     if has_mailbox:
-        size = chance.choice((16, 40, 128))
-        sheet["mailbox"] = (0x1000, size, 0x1080, size)
+        sheet |= any_mailbox(chance)
+        if chance.random() < 0.2:
+            sheet |= any_fault(chance, sheet["settings"], (*outputs, *inputs))
     return type(name, (Coe if has_mailbox else Smart if has_firmware else Slave,), sheet)
 
 

@@ -423,6 +423,24 @@ def check_parameters() -> None:
     expect("which is seen", "0x1c13 was written, and is fixed" in unsettled(plant.devices[0]), True)
 
 
+def check_stubborn() -> None:
+    """Mailboxes that stay full, that say one thing for ever, or answer beside what was asked."""
+    for kind, replies in ((models.Full, 1), (models.DeafBehind, 1), (models.Deaf, 0)):
+        plant, seen = open_mailbox(kind())
+        for place in range(replies):
+            expect(f"reply {place} of {kind.__name__}", asked(seen, 0x40, 0x1018, 1), (0x43, b"\xa5\5\0\0"))
+        room = sdo(2, 0x40, 0x1018, 2).ljust(122, b"\0")
+        written = [seen.write(0x1000, struct.pack("<HHBB", 10, 0, 0, 0x23) + room) for _ in range(2)]
+        plant.pass_time(0.01)
+        expect(f"whether {kind.__name__} takes two more", written, [kind is not models.Full, False])
+        expect("it is full, and nothing is said", (seen.read(0x0805, 1)[0] & 8, seen.read(0x080D, 1)[0] & 8), (8, 0))
+    _, seen = open_mailbox(models.EndlessBehind())
+    said = [seen.converse(3, sdo(2, 0x40, 0x1018, 1))] + [seen.read(*seen.in_box) for _ in range(5)]
+    expect("a reply behind two emergencies, and then emergencies", [one[7] >> 4 for one in said], [1, 1, 3, 1, 1, 1])
+    _, seen = open_mailbox(models.WrongSubindex())
+    expect("another subindex", seen.converse(3, sdo(2, 0x2B, 0x8010, 1, b"\1\0"))[8:12], bytes.fromhex("60108000"))
+
+
 def check_unsettled() -> None:
     """What is said of parameters that come too late, in another order, or not at all, and of mappings that aren't read behind them."""
     wanted = [(0x8010, 1, 1), (0x8010, 3, 0xFFFFFFFF), (0x8010, 2, 0xFED4), (0x8010, 1, 2)]

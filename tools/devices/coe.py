@@ -78,8 +78,11 @@ class Coe(Smart):
     # messages that it sends as it enters PREOP, and whenever it has nothing else to send
     greetings: tuple[tuple[int, bytes], ...] = ()
     is_chatty = False
-    # it takes no message; it gives no reply; its replies name another index; it answers by a mailbox error
-    is_deaf = is_mute = is_wrong = is_erring = False
+    # how many messages it takes, and how many requests it answers, if there is an end
+    takes: int | None = None
+    answers: int | None = None
+    # it leaves a message in its mailbox; its replies name another index, or another subindex; it answers by a mailbox error
+    is_keeping = is_wrong = is_beside = is_erring = False
     # an upload's reply doesn't say its size; it brings four bytes of a shorter value
     is_unsized = is_wide = False
     # objects that show another's value: index and subindex to the other's
@@ -98,7 +101,7 @@ class Coe(Smart):
             if way:
                 self.rows[index] = Row(list(indices), 2)
         self.replies: list[tuple[float, bytes]] = []
-        self.counter = self.heard = 0
+        self.counter = self.heard = self.took = self.answered = 0
         # what masters changed: index and subindex, with the value; and what they tried to
         self.downloads: list[tuple[int, int, int]] = []
         self.tried: list[tuple[int, int]] = []
@@ -131,7 +134,7 @@ class Coe(Smart):
 
     def converse(self) -> None:
         """A message is taken, and one is sent: the oldest that is due, once the mailbox is empty."""
-        message = None if self.is_deaf else self.esc.managers[0].take()
+        message = self.next_message()
         if message:
             self.hear(message)
         if self.is_chatty and not self.replies:
@@ -139,10 +142,20 @@ class Coe(Smart):
         if self.replies and self.now >= self.replies[0][0] and self.esc.managers[1].put(self.replies[0][1]):
             self.replies.pop(0)
 
+    def next_message(self) -> bytes | None:
+        """A message out of the mailbox, as long as it takes one."""
+        if self.took == self.takes:
+            return None
+        message = self.esc.managers[0].take()
+        if message:
+            self.took += 1
+            self.esc.managers[0].full = self.is_keeping
+        return message
+
     def talk(self, before: int, state: int) -> None:
         """In INIT nothing is left to send; as PREOP is entered from there, what it wants to say waits in front of any reply."""
         if state == INIT:
-            self.replies, self.counter, self.heard = [], 0, 0
+            self.replies, self.counter, self.heard, self.took, self.answered = [], 0, 0, 0, 0
         elif before == INIT:
             self.greet()
 
@@ -158,9 +171,9 @@ class Coe(Smart):
     def hear(self, message: bytes) -> None:
         """A message came in. One with the counter of the one before is a repeat, and dropped [DL "Mailbox structure"]."""
         length, _, _, kind = struct.unpack_from("<HHBB", message)
-        if kind >> 4 and kind >> 4 == self.heard or self.is_mute:
+        if kind >> 4 and kind >> 4 == self.heard or self.answered == self.answers:
             return
-        self.heard = kind >> 4
+        self.heard, self.answered = kind >> 4, self.answered + 1
         body = message[6 : 6 + length]
         if kind & 15 != COE or self.is_erring:
             self.say(MAILBOX_ERROR, struct.pack("<HH", 1, 2))
@@ -180,7 +193,7 @@ class Coe(Smart):
             answer, data = (0x80, struct.pack("<I", why.args[0]))
         # an abort is a request [AL "Abort SDO transfer"]
         service = REQUEST if answer == 0x80 else REPLY
-        body = struct.pack("<HBHB", service << 12, answer, index ^ self.is_wrong, sub) + data.ljust(4, b"\0")
+        body = struct.pack("<HBHB", service << 12, answer, index ^ self.is_wrong, sub ^ self.is_beside) + data.ljust(4, b"\0")
         self.say(COE, body, seconds)
 
     def transfer(self, command: int, index: int, sub: int, content: bytes) -> tuple[int, bytes]:

@@ -27,6 +27,8 @@ class Image:
     alias: int = 0
     mailbox: tuple[int, int, int, int] | None = None
     flags: int = 0
+    # whether the assignment of PDOs can be written
+    assigns: bool = True
     ports: int = 0x11
     # what each FMMU is for: 1 outputs, 2 inputs
     fmmus: tuple[int, ...] = ()
@@ -63,9 +65,9 @@ def strings(image: Image) -> bytes:
 
 
 def general(image: Image) -> bytes:
-    """Order number and name are string 1; SDOs and PDO assignment if there is a mailbox; the flags' bit 1 is no LRW; kinds of ports."""
+    """Order number and name are string 1; SDOs, and PDO assignment if it can be written; the flags' bit 1 is no LRW; kinds of ports."""
     body = bytearray(32)
-    body[2:4], body[5], body[11], body[16] = b"\1\1", 5 if image.mailbox else 0, image.flags, image.ports
+    body[2:4], body[5], body[11], body[16] = b"\1\1", (1 | 4 * image.assigns) * bool(image.mailbox), image.flags, image.ports
     return bytes(body)
 
 

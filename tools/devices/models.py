@@ -239,8 +239,25 @@ class Chatty(Emergencies):
 class EndlessEmergencies(Chatty):
     """It sends nothing else."""
 
-    product = 0x0108
-    is_mute = True
+    product, answers = 0x0108, 0
+
+
+class EndlessBehind(Chatty):
+    """It answers one request, and sends nothing else from then on."""
+
+    product, answers = 0x012C, 1
+
+
+class ManyEmergencies(Quick):
+    """It has sent 999 emergencies before its first reply, which a master finds at its 1000th poll."""
+
+    product, greetings = 0x012D, (emergency(0x5000),) * 999
+
+
+class TooManyEmergencies(Quick):
+    """One more."""
+
+    product, greetings = 0x012E, (emergency(0x5000),) * 1000
 
 
 class OtherProtocol(Quick):
@@ -248,6 +265,12 @@ class OtherProtocol(Quick):
 
     product = 0x0109
     greetings = ((EOE, bytes(14)),)
+
+
+class EndlessOthers(OtherProtocol):
+    """Ethernet frames are all that it sends."""
+
+    product, is_chatty, answers = 0x012F, True, 0
 
 
 class LateSdo(Quick):
@@ -294,8 +317,19 @@ class Wide(Quick):
 class Deaf(Quick):
     """It takes no message, so its mailbox is full for ever."""
 
-    product = 0x010D
-    is_deaf = True
+    product, takes = 0x010D, 0
+
+
+class DeafBehind(Quick):
+    """It takes one message, and no other."""
+
+    product, takes = 0x0130, 1
+
+
+class Full(Quick):
+    """It answers a message that it leaves in its mailbox, which is full for ever then."""
+
+    product, is_keeping, takes = 0x0131, True, 1
 
 
 class WrongIndex(Quick):
@@ -303,6 +337,13 @@ class WrongIndex(Quick):
 
     product = 0x010E
     is_wrong = True
+
+
+class WrongSubindex(Quick):
+    """It answers the download of a parameter with another subindex."""
+
+    product, is_beside = 0x0132, True
+    settings, init = {(0x8010, 1): (0, 2)}, ((0x8010, 1, 16, 700),)
 
 
 class Erring(Quick):
@@ -367,8 +408,9 @@ class TooManyParameters(ManyParameters):
 
 
 class FixedWithParameters(FixedAssignment):
-    """An assignment that can't be written, emergencies, late replies and a parameter in one device."""
+    """An assignment that can't be written, which its SII doesn't say, emergencies, late replies and a parameter in one device."""
 
+    is_boasting = True
     product, greetings, late = 0x0129, Emergencies.greetings, {(0x1C12, 1): 0.3, (0x8010, 1): 0.3}
     settings, init = {(0x8010, 1): (0, 2)}, ((0x8010, 1, 16, 700),)
 
@@ -468,6 +510,12 @@ class RefusesValue(Quick):
 
     product = 0x012A
     settings, highest, init = {(0x8010, 1): (0, 2)}, {(0x8010, 1): 100}, ((0x8010, 1, 16, 101),)
+
+
+class RefusesBehind(Parameters):
+    """Of its parameters it has all but the last, which is the slave's."""
+
+    product, own_init = 0x0133, (*Parameters.own_init, (0x8010, 4, 16, 1))
 
 
 class RefusesLength(Quick):

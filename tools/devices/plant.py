@@ -162,7 +162,8 @@ def unsettled(device: Slave) -> list[str]:
 
     Parameters come in PREOP, each as often as the table has it and in its order [ETG.2000 "InitCmd", transition PS; SOEM `PO2SOconfig`;
     IgH `ecrt_slave_config_sdo`], before mappings are read back, since they may write them; so each object has its last value. A fixed
-    assignment isn't written, and read [ETG.2000 "PdoAssign"]. What the device had to say was taken out of its mailbox."""
+    assignment isn't written, and read [ETG.2000 "PdoAssign"]. What a device had to say before its first reply was taken out of its
+    mailbox."""
     if not isinstance(device, Coe):
         return []
     wanted, own = wanted_init(device), (OUTPUTS_ASSIGNED, INPUTS_ASSIGNED)
@@ -171,9 +172,9 @@ def unsettled(device: Slave) -> list[str]:
     found += [f"0x{index:04x}:{sub} became {value}" for index, sub, value in device.downloads[len(wanted) :] if index not in own]
     found += [f"0x{index:04x}:{sub} was transferred in state {state}" for state, _, index, sub in device.transfers if state != PREOP]
     for (index, sub), value in {(index, sub): value for index, sub, value in wanted if index not in device.rows}.items():
-        if int.from_bytes(device.upload(index, sub), "little") != value:
+        if (index, sub) not in device.objects or int.from_bytes(device.upload(index, sub), "little") != value:
             found.append(f"0x{index:04x}:{sub} isn't {value}")
-    return found + unread(device) + ["it has more to say"] * bool(device.replies and not device.is_chatty)
+    return found + unread(device) + ["it has more to say"] * bool(device.replies and device.heard and not device.is_chatty)
 
 
 def unread(device: Coe) -> list[str]:

@@ -54,13 +54,16 @@ EXPECTED: dict[str, str] = {
     "Bare": "28 Counter 3",
     # a message that nobody asked for is taken for the reply
     "Emergencies": "9 BadMailbox 0", "Chatty": "9 BadMailbox 0", "EndlessEmergencies": "9 BadMailbox 0", "OtherProtocol": "9 BadMailbox 0",
-    "Deaf": "31 TooSlow 18", "WrongIndex": "9 BadMailbox 0", "Unsized": "9 BadMailbox 0",
+    **dict.fromkeys(("EndlessBehind", "ManyEmergencies", "TooManyEmergencies", "EndlessOthers"), "9 BadMailbox 0"),
+    # step 17 sends the first request, step 19 the second
+    "Deaf": "31 TooSlow 18", "DeafBehind": "31 TooSlow 20", "Full": "28 Counter 19",
+    "WrongIndex": "9 BadMailbox 0", "WrongSubindex": "9 BadMailbox 0", "Unsized": "9 BadMailbox 0",
     "Wide": "9 BadMailbox 0", "Erring": "9 BadMailbox 0", "FixedWithParameters": "9 BadMailbox 0", "DriveShouting": "9 BadMailbox 0",
     # 0x06010002: the object can only be read
     "FixedAssignment": "30 Abort 0 100728834", "FixedOtherwise": "30 Abort 0 100728834", "FixedFewer": "30 Abort 0 100728834",
     # parameters can't be said, and aren't needed
     "Parameters": "up", "ManyParameters": "up", "TooManyParameters": "up", "RefusesValue": "up",
-    "RefusesLength": "up",
+    "RefusesLength": "up", "RefusesBehind": "up",
     # two entries where one is wanted; the second is 0x60FF0020, a speed
     "OtherMapping": "38 Mapping 0 5632 0 2", "DriveRemapped": "38 Mapping 0 5632 2 1627324448",
     "BigMailbox": "up",
@@ -81,26 +84,19 @@ EXPECTED: dict[str, str] = {
     "odd": "up", "many": "up",
     "drives": "31 TooSlow 2", "parameters": "9 BadMailbox 2",
 }
-# the end with a table for hardware where it isn't yet the goal: the master doesn't know the keys `init` and `fixed` of a type
-NO_KEYS = "12 BadKey 1 0"
+# the end of each row with a table for hardware: `up`, but for these
 EXPECTED_HARDWARE: dict[str, str] = {
-    **dict.fromkeys((
-        "EL3104Filtered", "LateDownload", "NeverDone", "FixedAssignment", "FixedOtherwise", "FixedFewer", "OtherMapping", "Parameters",
-        "ManyParameters", "TooManyParameters", "FixedWithParameters", "Refuses", "RefusesValue", "RefusesLength", "Drive", "DriveQuick",
-        "DriveRemapped", "DriveShouting", "DriveByClocks", "parameters"), NO_KEYS),
-    "drives": "12 BadKey 1 1", "machine": "12 BadKey 1 5",
-    # what nobody asked for is taken for the reply, and an upload of another size isn't taken
-    **dict.fromkeys(("Emergencies", "Chatty", "EndlessEmergencies", "OtherProtocol", "Unsized", "Wide", "Erring"), "9 BadMailbox 0"),
-}
-# the end that a table for hardware shall come to: `up`, but for these rows
-GOALS: dict[str, str] = {
     # entries of over 64 bits, and managers over 3, can't be said
     "EL6224": "13 BadValue 1 0", "FourthManager": "13 BadValue 1 0",
-    # no reply to the first request comes, which step 22 sends, or one to another object
-    "Deaf": "31 TooSlow 23", "EndlessEmergencies": "31 TooSlow 23", "Erring": "31 TooSlow 23", "NeverDone": "31 TooSlow 23",
-    "WrongIndex": "9 BadMailbox 0",
-    # a parameter is aborted: no such object (0x06020000), a value out of range (0x06090030), a length that doesn't match (0x06070010)
-    "Refuses": "30 Abort 0 100794368", "RefusesValue": "30 Abort 0 101253168", "RefusesLength": "30 Abort 0 101122064",
+    # no reply to the first request comes, which step 22 sends, or within 1000 polls, or to the second, or one to another object
+    **dict.fromkeys(("Deaf", "EndlessEmergencies", "EndlessOthers", "TooManyEmergencies", "Erring", "NeverDone"), "31 TooSlow 23"),
+    "DeafBehind": "31 TooSlow 25", "EndlessBehind": "31 TooSlow 25", "WrongIndex": "9 BadMailbox 0", "WrongSubindex": "9 BadMailbox 0",
+    # the second request finds the mailbox full
+    "Full": "28 Counter 24",
+    # a parameter is aborted: no such object (0x06020000) or subindex (0x06090011), a value out of range (0x06090030), a length that
+    # doesn't match (0x06070010)
+    "Refuses": "30 Abort 0 100794368", "RefusesBehind": "30 Abort 0 101253137", "RefusesValue": "30 Abort 0 101253168",
+    "RefusesLength": "30 Abort 0 101122064",
     # a fixed assignment: its first object is 0x1A01; it has one
     "FixedOtherwise": "38 Mapping 0 7187 1 6657", "FixedFewer": "38 Mapping 0 7187 0 1",
     # 65 parameters
@@ -118,19 +114,18 @@ SCANNED: dict[str, str] = {
     # another length (0x1E); of the managers it sets others (0x1D).
     "EL6224": "46 Unsaid 0; 29 AlError 0 30", "FourthManager": "46 Unsaid 0; 29 AlError 0 29",
     # no reply comes, or none to the request
-    **dict.fromkeys(("Deaf", "EndlessEmergencies", "Erring"), "31 TooSlow"), "WrongIndex": "9 BadMailbox 0",
-    # the scan sets such messages aside, and takes a value of another size or without one; the start-up doesn't yet
-    **dict.fromkeys(("Emergencies", "Chatty", "OtherProtocol", "Unsized", "Wide", "DriveShouting", "FixedWithParameters"), "found; 9 BadMailbox 0"),
-    "parameters": "found; 9 BadMailbox 2",
+    **dict.fromkeys(("Deaf", "DeafBehind", "EndlessEmergencies", "EndlessBehind", "EndlessOthers", "TooManyEmergencies", "Erring"), "31 TooSlow"),
+    "WrongIndex": "9 BadMailbox 0", "WrongSubindex": "9 BadMailbox 0", "Full": "28 Counter",
     # a scan finds the mapping as it is: no entry is yet the one that the row's parameters put there
     "OtherMapping": "found; 17 NoEntry 0", "DriveRemapped": "found; 17 NoEntry 1", "drives": "found; 17 NoEntry 5",
     # a scan doesn't know the parameter that sets the mode
     **{name: f"found; up; unmet `expect {drive}_position 4711`; {drive}: position 0, wanted 4711; unmet `expect {drive}_position -300`; "
-             f"{drive}: position 0, wanted -300" for name, drive in (("Drive", "drive"), ("DriveQuick", "drivequick"), ("machine", "drive"))},
+             f"{drive}: position 0, wanted -300"
+       for name, drive in (("Drive", "drive"), ("DriveQuick", "drivequick"), ("DriveShouting", "driveshouting"), ("machine", "drive"))},
     # as by its own table
     "Falls": "found; up; state SAFEOP+ERROR 001d; pins 00, wanted a5",
-    # their SIIs say that the assignment can be written; 0x06010002: the object can only be read
-    **dict.fromkeys(("FixedAssignment", "FixedOtherwise", "FixedFewer"), "found; 30 Abort 0 100728834"),
+    # its SII says that the assignment can be written; 0x06010002: the object can only be read
+    "FixedWithParameters": "found; 30 Abort 0 100728834", "parameters": "found; 30 Abort 2 100728834",
     # there are no distributed clocks
     "DriveByClocks": "found; 29 AlError 0 48",
 }
@@ -138,11 +133,7 @@ SCANNED: dict[str, str] = {
 
 def expected(name: str) -> tuple[str, str]:
     """The ends of a row: with a table of today's keys, and with one for hardware."""
-    return EXPECTED.get(name, "an end in rows.py"), EXPECTED_HARDWARE.get(name, goal(name))
-
-
-def goal(name: str) -> str:
-    return GOALS.get(name, "up")
+    return EXPECTED.get(name, "an end in rows.py"), EXPECTED_HARDWARE.get(name, "up")
 
 
 @dataclass(frozen=True)

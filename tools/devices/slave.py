@@ -99,6 +99,8 @@ class Slave:
     init: tuple[tuple[int, int, int, int], ...] = ()
     own_init: tuple[tuple[int, int, int, int], ...] = ()
     fixed = any_revision = False
+    # its SII says that its assignment can be written, though it is fixed
+    is_boasting = False
     # lines of its trial, in which `{}` is its name; without any its variables are set and expected
     script: tuple[str, ...] | None = None
     # how a former master or tool left it: a state, and an AL status code if it has an error; whether the SII is the PDI's, or has an error
@@ -125,7 +127,7 @@ class Slave:
         # PDI control: 4 are digital pins, 5 is a controller by SPI [ESC 0x0140]
         return eeprom.Image(
             identity=(self.vendor, self.product, self.revision, 0), name=self.name, pdi=(4, 1) if self.emulates else (5, 0),
-            mailbox=self.mailbox, flags=2 if self.chip.features & 0x0200 else 0, fmmus=(1, 2)[: self.chip.fmmus],
+            mailbox=self.mailbox, flags=2 if self.chip.features & 0x0200 else 0, assigns=not self.fixed or self.is_boasting, fmmus=(1, 2)[: self.chip.fmmus],
             managers=self.manager_rows(), outputs=listed[0], inputs=listed[1])
 
     def directions(self) -> tuple[tuple[Area, tuple[Pdo, ...]], tuple[Area, tuple[Pdo, ...]]]:

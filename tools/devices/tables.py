@@ -58,7 +58,14 @@ def hardware_lines(kind: type[Slave]) -> list[str]:
     if kind.fixed:
         lines.append("fixed = true")
     lines += init_lines(kind.init)
-    return [line + MARK for line in lines]
+    return [line + MARK for line in (*lines, *simulated_lines(kind))]
+
+
+def simulated_lines(kind: type[Slave]) -> list[str]:
+    """What makes a simulated slave alike: a firmware step for each 10 ms that a state takes, an emergency, and how many FMMUs."""
+    steps = min(100, int(100 * max(getattr(kind, "delays", {}).values(), default=0)))
+    rows = (("slow", steps, steps), ("emergency", "true", getattr(kind, "greetings", ())), ("fmmus", kind.chip.fmmus, kind.chip.fmmus in (2, 3)))
+    return [f"{key} = {value}" for key, value, is_told in rows if is_told]
 
 
 def init_lines(init: tuple[tuple[int, int, int, int], ...]) -> list[str]:

@@ -5,7 +5,9 @@
 
 TABLE is examples/small_machine.toml. It ends with status 1 if a call returns something else than it must.
 """
+import collections
 import sys
+import time
 
 import ecat
 
@@ -45,10 +47,22 @@ def polls_among_outputs(real):
         must(polls == 5 and outputs >= 10, "frames of outputs come before each poll")
 
 
+def rests_grow(real):
+    """Two slaves let each request wait for 100 firmware steps, and one is made with each frame. So PREOP and SAFEOP are asked for 100 times
+    again, and OP, before which both parts are fed, 33 times: 9 times at once, then up to the 100th time after 1 ms, then after 10."""
+    slow, rests, sleep = real.replace("[[type]]\n", "[[type]]\nslow = 100\n"), collections.Counter(), time.sleep
+    time.sleep = lambda seconds: rests.update([seconds])
+    with ecat.Master(slow) as m, ecat.Segment(slow) as slaves:
+        m.bring_up(slaves)
+    time.sleep = sleep
+    must(rests == {0: 4 * 9 + 2 * 9, 0.001: 4 * 90 + 2 * 24, 0.01: 4}, "the rests between polls grow")
+
+
 def runs_as_real(table):
     """The same machine of a table for hardware, in which one variable is signed."""
     real = "hardware = true\n" + table.replace('dir = "out"\nbits = 16\n', 'dir = "out"\nbits = 16\nsigned = true\n')
     polls_among_outputs(real)
+    rests_grow(real)
     with ecat.Master(real) as m, ecat.Segment(real) as slaves:
         m.bring_up(slaves)
         m["force_wanted"] = 65531

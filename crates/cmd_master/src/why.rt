@@ -153,7 +153,12 @@ impl<'t> Failed<'t> {
     fn new(session: &'t Session, error: StartError) -> Failed<'t> {
         Failed {
             refusal: Refusal::Start(error),
-            fault: StartFault::of_plan(session.table(), session.plan(), error),
+            fault: StartFault::of_startup(
+                session.table(),
+                session.plan(),
+                session.startup(),
+                error,
+            ),
         }
     }
 }

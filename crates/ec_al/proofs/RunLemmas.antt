@@ -6,9 +6,9 @@ use native.Mathlib.Decide.{dec_le}
 use mathlib.Core.Logic.{dite}
 use Rattle.ec_al.specs.States.{state_number}
 use Rattle.ec_al.specs.Transitions.{requested_number, requested_by, acknowledges, answer}
-use Rattle.ec_al.specs.Al.{Al, power_on, stepped, answered, faulted, IsSound}
-use Rattle.ec_al.specs.Runs.{Event, Request, Step, Fault, Reset, after, after_all}
-use Rattle.ec_al.specs.Laws.{height, ClimbsOneStateAtATime, KeepsErrors, ReachesOpByRequest, CodeMatchesErrors, Unacknowledging, GrantsOp}
+use Rattle.ec_al.specs.Al.{Al, power_on, stepped, waiting, answered, faulted, IsSound}
+use Rattle.ec_al.specs.Runs.{Event, Request, Step, Wait, Fault, Reset, after, after_all}
+use Rattle.ec_al.specs.Laws.{height, ClimbsOneStateAtATime, KeepsErrors, ReachesOpByRequest, CodeMatchesErrors, WaitingDecidesNothing, Unacknowledging, GrantsOp}
 use Rattle.ec_al.specs.declared.state.State.{State}
 use Rattle.ec_al.specs.declared.state.State.TheVariants.{Init, PreOp, SafeOp, Op}
 use Rattle.ec_al.specs.declared.status_code.StatusCode.{StatusCode}
@@ -42,6 +42,7 @@ height-answer state Unknown checks al e = grind arith
 height-after : (al : Al) (event : Event) → height (after al event).state ≤ height al.state + 1
 height-after al Request = omega arith
 height-after al (Step control checks) = grind (arith, height-answer al.state (requested_by control) checks al refl)
+height-after al Wait = omega arith
 height-after al Fault = grind arith
 height-after al Reset = omega arith
 
@@ -58,6 +59,7 @@ climbs al (event ∷ events) r below reached =
 sound-after : (al : Al) (event : Event) → IsSound al → IsSound (after al event)
 sound-after al Request h = h
 sound-after al (Step control checks) h = grind arith
+sound-after al Wait h = h
 sound-after al Fault h = grind arith
 sound-after al Reset h = search rules
 
@@ -74,12 +76,14 @@ code_tells events = sound-after_all power_on events (search rules)
 error-after : (al : Al) (event : Event) → al.error ≡ true → Unacknowledging event → (after al event).error ≡ true
 error-after al Request h quiet = h
 error-after al (Step control checks) h quiet = grind arith
+error-after al Wait h quiet = h
 error-after al Fault h quiet = grind arith
 error-after al Reset h quiet = absurd quiet
 
 held-after : (al : Al) (event : Event) → al.error ≡ true → Unacknowledging event → al.state ≢ Op → ((after al event).state ≡ al.state) × ((after al event).code ≡ al.code)
 held-after al Request h quiet below = (refl, refl)
 held-after al (Step control checks) h quiet below = grind arith
+held-after al Wait h quiet below = (refl, refl)
 held-after al Fault h quiet below = grind arith
 held-after al Reset h quiet below = absurd quiet
 
@@ -155,6 +159,7 @@ entered-op al (Step control checks) below there =
     let step = step-op al control checks below there in
     let grant = grants-op al control checks below step.0 step.1 in
     (control, (checks, (refl, record { from = grant.0; waits = step.0; asked = grant.1; acknowledged = step-acknowledged al control checks below there; granted = there })))
+entered-op al Wait below there = absurd (below there)
 entered-op al Fault below there = absurd (faulted-op al below there)
 entered-op al Reset below there = cc
 
@@ -166,6 +171,15 @@ reaches al (event ∷ events) below there = elim (op_or_not (after al event).sta
   | inr not_yet ↦ (let rest = reaches (after al event) events not_yet there in
       (event ∷ rest.0, (rest.1.0, (rest.1.1.0, (rest.1.1.1.0, (ap (λ es. event ∷ es) rest.1.1.1.1.0, rest.1.1.1.1.1))))))
 ]
+
+-- ---- requests that wait
+
+-- with a request that waits, the count of the steps alone is lost
+waited-decided : (al : Al) (control : ℕ) (checks : Checks) → al.requested ≡ true → stepped (waiting al) control checks ≡ stepped al control checks
+waited-decided al control checks waits = rw waits refl
+
+pub waits_alone : WaitingDecidesNothing
+waits_alone al = record { status = refl; code = refl; decided = waited-decided al; again = refl }
 
 -- ---- numbers of states
 

@@ -4,8 +4,8 @@ use Rattle.std.specs.Prelude.{ℕ, ◌+◌, ◌%◌, ◌≡◌, ◌≢◌, ◌<�
 use Rattle.ec_regs.specs.Words.{al_state}
 use Rattle.ec_al.specs.States.{state_number, state_name, state_named, bootstrap_number}
 use Rattle.ec_al.specs.Transitions.{requested_number, requested_by, acknowledges, answer}
-use Rattle.ec_al.specs.Al.{Al, copied, power_on, status_word, requesting, stepped, IsSound}
-use Rattle.ec_al.specs.Runs.{Event, Request, Step, Fault, Reset, after_all}
+use Rattle.ec_al.specs.Al.{Al, copied, power_on, status_word, requesting, waiting, stepped, IsSound}
+use Rattle.ec_al.specs.Runs.{Event, Request, Step, Wait, Fault, Reset, after_all}
 use Rattle.ec_al.specs.declared.state.State.{State}
 use Rattle.ec_al.specs.declared.state.State.TheVariants.{Init, PreOp, SafeOp, Op}
 use Rattle.ec_al.specs.declared.transition.Requested.TheVariants.{To}
@@ -51,6 +51,7 @@ ClimbsOneStateAtATime =
 abbrev pub Unacknowledging : Event → Type 0
 Unacknowledging Request = Unit {0}
 Unacknowledging (Step control checks) = acknowledges control ≡ false
+Unacknowledging Wait = Unit {0}
 Unacknowledging Fault = Unit {0}
 Unacknowledging Reset = ⊥
 
@@ -89,7 +90,7 @@ NeverEntersBootstrap =
     × ((al : Al) (control : ℕ) (checks : Checks) →
     requested_number control ≡ bootstrap_number → (stepped al control checks).state ≡ al.state)
 
--- A request is decided once, by the first firmware step after it; requests until then count as one.
+-- A request is decided once, by the first firmware step after it that doesn't let it wait; requests until then count as one.
 abbrev pub DecidesOnce : Type 0
 DecidesOnce =
     (al : Al) (control : ℕ) (checks : Checks) →
@@ -97,6 +98,16 @@ DecidesOnce =
     × ((later : ℕ) (others : Checks) →
     stepped (stepped al control checks) later others ≡ stepped al control checks)
     × (requesting (requesting al) ≡ requesting al)
+
+-- A step that lets a request wait shows nothing, and changes nothing of how it is decided; and the next request waits anew.
+pub record WaitsAlone (al : Al) : Type 0 where
+  pub status : status_word (waiting al) ≡ status_word al
+  pub code : (waiting al).code ≡ al.code
+  pub decided : (control : ℕ) (checks : Checks) → al.requested ≡ true → stepped (waiting al) control checks ≡ stepped al control checks
+  pub again : requesting (waiting al) ≡ requesting al
+
+abbrev pub WaitingDecidesNothing : Type 0
+WaitingDecidesNothing = (al : Al) → WaitsAlone al
 
 -- From every state, and with every error, a request for INIT with the acknowledgement (0x0011) leads to INIT without
 -- error.

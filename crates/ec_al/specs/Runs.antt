@@ -1,6 +1,6 @@
 -- What happens to a slave's AL state machine, one event after another.
 use Rattle.std.specs.Prelude.{ℕ, List, [], ◌∷◌}
-use Rattle.ec_al.specs.Al.{Al, power_on, requesting, stepped, faulted}
+use Rattle.ec_al.specs.Al.{Al, power_on, requesting, stepped, waiting, faulted}
 use Rattle.ec_al.specs.declared.transition.Checks.{Checks}
 
 pub data Event : Type 0 where
@@ -8,6 +8,8 @@ pub data Event : Type 0 where
   Request : Event
   -- a firmware step, with the control word and the configuration as they then stand
   Step : ℕ → Checks → Event
+  -- a firmware step of a slow device, which lets the request wait
+  Wait : Event
   -- the application has a fault
   Fault : Event
   -- the power goes off and on
@@ -16,6 +18,7 @@ pub data Event : Type 0 where
 abbrev pub after : Al → Event → Al
 after al Request = requesting al
 after al (Step control checks) = stepped al control checks
+after al Wait = waiting al
 after al Fault = faulted al
 after al Reset = power_on
 

@@ -1,7 +1,7 @@
 //! What the standard says of the EtherCAT state machine, proved of the definitions that the contracts of this
 //! crate cite. Each function does nothing; its contract is the law, which `specs/Laws.antt` spells out.
 
-ghost use Rattle.ec_al.specs.Laws.{AsksByNumber, GrantsUpToTheNextState, ClimbsOneStateAtATime, KeepsErrors, ReachesOpByRequest, CodeMatchesErrors, NeverEntersBootstrap, DecidesOnce, ReturnsToInit, ComesUpToOp, CopiesAreShown, NamesReadBack};
+ghost use Rattle.ec_al.specs.Laws.{AsksByNumber, GrantsUpToTheNextState, ClimbsOneStateAtATime, KeepsErrors, ReachesOpByRequest, CodeMatchesErrors, NeverEntersBootstrap, DecidesOnce, WaitingDecidesNothing, ReturnsToInit, ComesUpToOp, CopiesAreShown, NamesReadBack};
 
 /// A control word asks for a state exactly by that state's number.
 pub fn asks_by_number()
@@ -43,9 +43,15 @@ pub fn never_enters_bootstrap()
     ensures { NeverEntersBootstrap }
 {}
 
-/// A request is decided once, by the first firmware step after it.
+/// A request is decided once, by the first firmware step after it that doesn't let it wait.
 pub fn decides_once()
     ensures { DecidesOnce }
+{}
+
+/// A step that lets a request wait shows nothing, and changes nothing of how it is decided.
+#[tactic(auto, using(crate::proofs::RunLemmas::waits_alone))]
+pub fn waiting_decides_nothing()
+    ensures { WaitingDecidesNothing }
 {}
 
 /// A request for INIT with the acknowledgement leads from every state to INIT without error.

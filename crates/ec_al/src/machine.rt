@@ -1,6 +1,6 @@
 //! The AL state machine of a slave.
-ghost use Rattle.std.specs.Prelude.{◌≡◌, ◌↔◌, IsTrue, false};
-ghost use Rattle.ec_al.specs.Al.{copied, power_on, requesting, stepped, faulted, is_shown as is_indicated, status_word};
+ghost use Rattle.std.specs.Prelude.{◌≡◌, ◌<◌, ◌↔◌, IsTrue, false};
+ghost use Rattle.ec_al.specs.Al.{copied, power_on, requesting, waiting, stepped, faulted, is_shown as is_indicated, status_word};
 ghost use Rattle.ec_al.specs.declared.state.State.TheVariants.{Op};
 
 use crate::state::State;
@@ -39,6 +39,8 @@ pub struct Al {
     state: State,
     error: Indication,
     is_requested: bool,
+    // how many steps let the request wait
+    waited: u8,
 }
 
 impl Model for Al {
@@ -51,6 +53,7 @@ impl Model for Al {
       error = is_shown a.error;
       code = shown_code a.error;
       requested = a.is_requested;
+      waited = a.waited;
     } };
 }
 
@@ -63,14 +66,24 @@ impl Al {
             state: State::Init,
             error: Indication::Clear,
             is_requested: false,
+            waited: 0,
         }
     }
 
-    /// The master wrote the AL control word: a request waits.
+    /// The master wrote the AL control word: a new request waits from now on.
     pub fn request(&mut self)
         ensures { self.new ≡ requesting self.old }
     {
         self.is_requested = true;
+        self.waited = 0;
+    }
+
+    /// A firmware step of a slow device, which lets the request wait.
+    pub fn wait(&mut self)
+        requires { self.old.waited < 255 }
+        ensures { self.new ≡ waiting self.old }
+    {
+        self.waited += 1;
     }
 
     /// A firmware step. It decides a request that waits by the AL control word as it now stands, and the request waits no
@@ -82,6 +95,7 @@ impl Al {
             return;
         }
         self.is_requested = false;
+        self.waited = 0;
         if self.error.is_shown() && !AlWord(control).acknowledges() {
             return;
         }
@@ -100,6 +114,7 @@ impl Al {
         ensures { self.new ≡ copied self.old control }
     {
         self.is_requested = false;
+        self.waited = 0;
         let Requested::To(state) = Requested::of(control) else {
             return;
         };
@@ -163,6 +178,13 @@ impl Al {
         ensures { result ≡ self.now.requested }
     {
         self.is_requested
+    }
+
+    /// How many firmware steps let the request wait.
+    pub fn waited(&self) -> u8
+        ensures { result ≡ self.now.waited }
+    {
+        self.waited
     }
 
     /// The AL status word (ETG.1000.6, "AL status"): the state's number and the error.

@@ -1,5 +1,5 @@
 -- A scan that is compared with the table in a file.
-use Rattle.std.proofs.Common.{◌≡◌, ℕ, List, Option, Some, Result, Ok, Err, inl, inr, refl, sym, subst}
+use Rattle.std.proofs.Common.{◌≡◌, ℕ, List, Some, Result, Ok, Err, inl, inr, refl, sym, subst}
 use Rattle.std.specs.Result.{IsErrAnd}
 use Rattle.ec_table.specs.Contents.{Contents}
 use Rattle.ec_console.specs.declared.refusal.Refusal.{Refusal}

@@ -554,8 +554,9 @@ asked for INIT. Frames go where those of `ecat master` go.
 
 With `--against` it prints a line for each thing that differs from TABLE:
   slave S NAME: WHAT
-                  device (vendor and product), revision, serial, other outputs or other inputs; a
-                  revision that TABLE leaves out and a serial number of 0 differ from none
+                  device (vendor and product), revision, serial, or a PDO that is missing, has other
+                  entries or isn't in TABLE; a revision that TABLE leaves out and a serial number of
+                  0 differ from none
   slave S NAME: missing
   slave S: not in the table: VENDOR PRODUCT
 

@@ -1,6 +1,8 @@
 -- The script as a way up.
 -- the script brings every slave to the top
 pub mod Walks
+-- how many polls each wait takes
+pub mod Polls
 -- from one frame to the next, and from the first to the last
 pub mod IsPath
 -- the checks of the AL state machine pass at a slave that was set as the plan says

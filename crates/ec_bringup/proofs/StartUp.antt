@@ -7,6 +7,8 @@ pub mod Keeps
 pub mod StartUpLaw
 -- an undisturbed start-up ends Ready
 pub mod ComesUpLaw
+-- and takes few frames
+pub mod FewFrames
 -- bringing up a start-up
 pub mod BringUp
 -- a start-up without `hardware`: one frame for each action

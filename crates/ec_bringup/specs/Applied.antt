@@ -5,12 +5,11 @@ use Rattle.ec_slave.specs.State.{SlaveState, manager_at}
 use Rattle.ec_slave.specs.Application.{is_running, with_manager}
 use Rattle.ec_link.specs.declared.settings.SlavePlan.{SlavePlan}
 use Rattle.ec_start.specs.declared.action.Feed.{Feed}
-use Rattle.ec_start.specs.Feeding.{frames_of}
-use Rattle.ec_start.specs.Scripts.{script}
 use Rattle.ec_start.specs.Running.{begun}
 use Rattle.ec_bringup.specs.Undisturbed.{Rising, turned, ArePlansWith, AreDevices}
 use Rattle.ec_bringup.specs.BringUp.{rising}
-use Rattle.ec_bringup.specs.ComesUp.{IsOnItsWay, IsUpAndWorks}
+use Rattle.ec_bringup.specs.ComesUp.{AllAgree, IsOnItsWay, IsUpAndWorks}
+use Rattle.ec_bringup.specs.Counting.{frames_up}
 
 -- the slave with `view` as what its application has still to read of the outputs
 abbrev pub with_view : SlaveState → Option (List ℕ) → SlaveState
@@ -41,5 +40,5 @@ pub data TurnsTo : ℕ → Rising → Rising → Type 0 where
 -- Whatever applications do between its frames, a start-up that nothing else disturbs is Ready after as many frames, and not before.
 abbrev pub AppliedUpLaw : Type 0
 AppliedUpLaw =
-    (ps : List SlavePlan) (fs : List Feed) → ArePlansWith ps fs → (from : ℕ) (ss : List SlaveState) → AreDevices ps ss → (k : ℕ) (e : Rising) → TurnsTo k (rising (begun ps fs from) ss) e
-    → (k < frames_of fs (script ps) → IsOnItsWay (from + k) e) × (k ≡ frames_of fs (script ps) → IsUpAndWorks ps (from + k) e)
+    (ps : List SlavePlan) (fs : List Feed) → ArePlansWith ps fs → AllAgree ps → (from : ℕ) (ss : List SlaveState) → AreDevices ps ss → (k : ℕ) (e : Rising) → TurnsTo k (rising (begun ps fs from) ss) e
+    → (k < frames_up ps fs ss → IsOnItsWay (from + k) e) × (k ≡ frames_up ps fs ss → IsUpAndWorks ps (from + k) e)

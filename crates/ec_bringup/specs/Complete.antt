@@ -8,6 +8,7 @@ use Rattle.ec_device.specs.declared.slave_type.Device.{Device}
 use Rattle.ec_device.specs.declared.slave_type.Mailbox.{Mailbox}
 use Rattle.ec_regs.specs.Managers.{is_set}
 use Rattle.ec_device.specs.Types.{SlaveKind}
+use Rattle.ec_device.specs.Hardware.{slow}
 use Rattle.ec_coe.specs.Objects.{entry_number, identity_object, output_assignment, input_assignment, device_name_object}
 use Rattle.ec_device.specs.Objects.{pdo_at, bits_assigned}
 use Rattle.ec_coe.specs.Transfers.{distinct}
@@ -75,6 +76,9 @@ pub record IsComplete (p : SlavePlan) : Type 0 where
   pub reach : CanReach p.kind.mailbox
   pub outs : IsAssignable p.kind p.kind.outputs p.outputs
   pub ins : IsAssignable p.kind p.kind.inputs p.inputs
+  -- without `hardware` it has no parameters; a slow device lets a request wait for 100 firmware steps at most
+  pub plain : p.kind.hardware ≡ None → p.kind.init ≡ []
+  pub slow : slow p.kind.hardware ≤ 100
   -- without mapped bits it has no output bits
   pub no_out_bits : p.share.outs ≡ 0 → bits_assigned p.kind.outputs p.outputs ≡ 0
   pub out_carried : carries (settings_at p.managers 2) (bits_assigned p.kind.outputs p.outputs) p.kind.out_start outputs_mode ≡ true

@@ -1,15 +1,16 @@
 -- A start-up's frame under way: what its second datagram is at a slave, and what a slave that it has passed stands at.
-use Rattle.std.specs.Prelude.{ℕ, ◌+◌, ◌-◌, ◌%◌, ◌≤◌, ◌≡◌, ◌≢◌, length, slice_index, Bool}
+use Rattle.std.specs.Prelude.{ℕ, ◌+◌, ◌-◌, ◌%◌, ◌≤◌, ◌≡◌, ◌≢◌, ◌⊎◌, length, slice_index, Bool, true}
 use Rattle.std.specs.Int.{bit_at}
 use Rattle.ec_device.specs.Types.{SlaveKind}
 use Rattle.ec_frame.specs.Datagram.{Datagram, adp_of, ado_of}
 use Rattle.ec_al.specs.States.{state_number}
 use Rattle.ec_slave.specs.State.{SlaveState}
 use Rattle.ec_coe.specs.Messages.{message_read}
+use Rattle.ec_coe.specs.Replies.{is_aside}
 use Rattle.ec_start.specs.declared.action.Action.{Action}
-use Rattle.ec_start.specs.declared.action.Action.TheVariants.{CountSlaves, AskInit, AwaitInit, ClearFmmus, ClearManagers, ClearStations, NameSlave, AskWord, AwaitWord, SetManager, SetFmmu, AskState, AwaitState, SendRequest, AwaitReply, AwaitInitState, ClearAllFmmus, ClearAllManagers, AssignSii, ClearSiiError, AwaitCleanInit, FeedPart}
+use Rattle.ec_start.specs.declared.action.Action.TheVariants.{CountSlaves, AskInit, AwaitInit, ClearFmmus, ClearManagers, ClearStations, NameSlave, AskWord, AwaitWord, SetManager, SetFmmu, AskState, AwaitState, SendRequest, AwaitReply, AwaitFreeReply, AwaitInitState, ClearAllFmmus, ClearAllManagers, AssignSii, ClearSiiError, AwaitCleanInit, FeedPart}
 use Rattle.ec_start.specs.Actions.{datagram_of}
-use Rattle.ec_start.specs.Verdicts.{word_at, message_verdict}
+use Rattle.ec_start.specs.Verdicts.{word_at, message_verdict, free_verdict}
 use Rattle.ec_start.specs.declared.verdict.Verdict.TheVariants.{Next}
 use Rattle.ec_bringup.specs.Stages.{Stage, after}
 use Rattle.ec_bringup.specs.Standing.{Stands}
@@ -59,6 +60,7 @@ Arrives (AskState t state) number j d = Untouched t j (datagram_of (AskState t s
 Arrives (AwaitState t state) number j d = Untouched t j (datagram_of (AwaitState t state) number) d
 Arrives (SendRequest t counter b r) number j d = Untouched t j (datagram_of (SendRequest t counter b r) number) d
 Arrives (AwaitReply t b r) number j d = Untouched t j (datagram_of (AwaitReply t b r) number) d
+Arrives (AwaitFreeReply t b r) number j d = Untouched t j (datagram_of (AwaitFreeReply t b r) number) d
 
 -- as far as the datagram has come, it may still come back as one that is tried again
 abbrev pub MayRepeat : Action → Datagram → Type 0
@@ -68,6 +70,7 @@ MayRepeat (AwaitCleanInit t) d = Unit {0}
 MayRepeat (AwaitWord t which) d = Unit {0}
 MayRepeat (AwaitState t state) d = Unit {0}
 MayRepeat (AwaitReply t b r) d = d.counter ≡ 0
+MayRepeat (AwaitFreeReply t b r) d = (d.counter ≡ 0) ⊎ (is_aside d.data_bytes ≡ true)
 MayRepeat _ d = ⊥
 
 pub record ShowsInit (d : Datagram) : Type 0 where
@@ -86,6 +89,7 @@ MayEnd (AwaitCleanInit t) d = (d.counter ≡ 1) × (slice_index d.data_bytes 0 %
 MayEnd (AwaitWord t which) d = (d.counter ≡ 1) × (bit_at (word_at d.data_bytes 0) 15 ≢ 1)
 MayEnd (AwaitState t state) d = (d.counter ≡ 1) × (bit_at (slice_index d.data_bytes 0) 4 ≢ 1) × (slice_index d.data_bytes 0 % 32 ≡ state_number state)
 MayEnd (AwaitReply t b r) d = (d.counter ≡ 1) × (message_verdict t r (message_read d.data_bytes) ≡ Next)
+MayEnd (AwaitFreeReply t b r) d = (d.counter ≡ 1) × (free_verdict t r d.data_bytes ≡ Next)
 MayEnd _ d = Unit {0}
 
 -- the action is for one slave, and not for this one
@@ -112,6 +116,7 @@ IsOther (AskState t state) i = t ≢ i
 IsOther (AwaitState t state) i = t ≢ i
 IsOther (SendRequest t counter b r) i = t ≢ i
 IsOther (AwaitReply t b r) i = t ≢ i
+IsOther (AwaitFreeReply t b r) i = t ≢ i
 
 -- a slave that the frame has passed
 pub record Met (kind : SlaveKind) (i : ℕ) (st : Stage) (trouble : Bool) (a : Action) (d : Datagram) (s : SlaveState) : Type 0 where

@@ -8,7 +8,8 @@ use Rattle.ec_link.specs.declared.settings.SlavePlan.{SlavePlan}
 use Rattle.ec_start.specs.declared.action.Action.{Action}
 use Rattle.ec_start.specs.Scripts.{script}
 use Rattle.ec_start.specs.declared.error.StartError.{StartError}
-use Rattle.ec_start.specs.declared.verdict.Verdict.TheVariants.{Next, Word, Fed, Again}
+use Rattle.ec_start.specs.declared.aside.Heard.{Heard}
+use Rattle.ec_start.specs.declared.verdict.Verdict.TheVariants.{Next, Word, Fed, Again, Aside}
 use Rattle.ec_device.specs.declared.slave_type.Device.{Device}
 use Rattle.ec_start.specs.Verdicts.{verdict}
 use Rattle.ec_start.specs.declared.action.Feed.{Feed}
@@ -133,6 +134,7 @@ TakeLaw =
     → (verdict n step seen (type_of ps) a d ≡ Next → MayEnd a d)
     × ((value : ℕ) → verdict n step seen (type_of ps) a d ≡ Word value → MayEnd a d)
     × (verdict n step seen (type_of ps) a d ≡ Again → MayRepeat a d)
+    × ((heard : Heard) → verdict n step seen (type_of ps) a d ≡ Aside heard → MayRepeat a d)
 
 -- a part that is fed is no step's own action
 abbrev pub FedLaw : Type 0

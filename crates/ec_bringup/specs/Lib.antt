@@ -3,12 +3,15 @@
 pub mod SwitchedOn
 -- How far a start-up has brought a slave, action by action, and what a slave holds there.
 pub mod Stages
+-- What the requests of a start-up make of a dictionary.
+pub mod Dictionaries
 pub mod Standing
 -- What a frame under way is at each slave, and where it leads one that it has passed.
 pub mod Frames
 -- What a plan must be beyond `IsStartable`, that an undisturbed start-up ends Ready; an undisturbed start-up.
 pub mod Complete
 pub mod Undisturbed
+pub mod Counting
 -- The parts that are fed; the runs of a segment that starts up, disturbed or not, and what holds at Ready.
 pub mod Starting
 pub mod Fed

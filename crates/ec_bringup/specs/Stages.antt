@@ -12,7 +12,7 @@ use Rattle.ec_al.specs.declared.state.State.TheVariants.{Init, PreOp, SafeOp, Op
 use Rattle.ec_coe.specs.Objects.{output_assignment, input_assignment}
 use Rattle.ec_start.specs.Plans.{settings_at}
 use Rattle.ec_start.specs.declared.action.Action.{Action}
-use Rattle.ec_start.specs.declared.action.Action.TheVariants.{CountSlaves, AskInit, AwaitInit, ClearFmmus, ClearManagers, ClearStations, NameSlave, AskWord, AwaitWord, SetManager, SetFmmu, AskState, AwaitState, SendRequest, AwaitReply, AwaitInitState, ClearAllFmmus, ClearAllManagers, AssignSii, ClearSiiError, AwaitCleanInit, FeedPart}
+use Rattle.ec_start.specs.declared.action.Action.TheVariants.{CountSlaves, AskInit, AwaitInit, ClearFmmus, ClearManagers, ClearStations, NameSlave, AskWord, AwaitWord, SetManager, SetFmmu, AskState, AwaitState, SendRequest, AwaitReply, AwaitFreeReply, AwaitInitState, ClearAllFmmus, ClearAllManagers, AssignSii, ClearSiiError, AwaitCleanInit, FeedPart}
 use Rattle.ec_start.specs.declared.action.SdoRequest.{SdoRequest}
 use Rattle.ec_start.specs.declared.action.Transfer.{Transfer}
 use Rattle.ec_start.specs.declared.action.Transfer.TheVariants.{Download, Upload}
@@ -51,6 +51,8 @@ pub record Config : Type 0 where
   pub talk : Option Talk
   pub outs : Claim
   pub ins : Claim
+  -- the requests that were answered as they should be, in order
+  pub done : List SdoRequest
   pub rise : Rise
 
 pub data Stage : Type 0 where
@@ -74,6 +76,7 @@ fresh = record {
   talk = None;
   outs = no_claim;
   ins = no_claim;
+  done = [];
   rise = Stays Init;
 }
 
@@ -104,7 +107,7 @@ answered_by c r (Download v) =
 
 -- what is known once the reply to the request has come and fits
 abbrev pub answered : Config → SdoRequest → Config
-answered c r = answered_by c r r.transfer
+answered c r = answered_by (record c { done = c.done ++ r ∷ [] }) r r.transfer
 
 abbrev pub climbing : Rise → State → Rise
 climbing Falls wanted = Climbs Init wanted
@@ -122,6 +125,7 @@ config_after c (AskState i state) = record c { rise = climbing c.rise state }
 config_after c (AwaitState i state) = record c { rise = Stays state }
 config_after c (SendRequest i counter b r) = record c { talk = Some (record { mailbox = b; counter = counter; request = r }) }
 config_after c (AwaitReply i b r) = answered c r
+config_after c (AwaitFreeReply i b r) = answered c r
 config_after c _ = c
 
 abbrev pub up_after : Stage → Action → Stage
@@ -158,6 +162,7 @@ after i st (AskState t state) = if_mine t i (up_after st (AskState t state)) st
 after i st (AwaitState t state) = if_mine t i (up_after st (AwaitState t state)) st
 after i st (SendRequest t counter b r) = if_mine t i (up_after st (SendRequest t counter b r)) st
 after i st (AwaitReply t b r) = if_mine t i (up_after st (AwaitReply t b r)) st
+after i st (AwaitFreeReply t b r) = if_mine t i (up_after st (AwaitFreeReply t b r)) st
 
 -- ---- which action may come at a stage
 
@@ -185,6 +190,13 @@ IsLow (Stays Init) = Unit {0}
 IsLow (Stays PreOp) = Unit {0}
 IsLow _ = ⊥
 
+-- in INIT, or on the way from there
+abbrev pub IsEarly : Rise → Type 0
+IsEarly Falls = Unit {0}
+IsEarly (Stays Init) = Unit {0}
+IsEarly (Climbs Init PreOp) = Unit {0}
+IsEarly _ = ⊥
+
 -- in INIT
 abbrev pub IsAtInit : Rise → Type 0
 IsAtInit Falls = Unit {0}
@@ -195,12 +207,15 @@ abbrev pub CanAct : Config → Action → Type 0
 CanAct c (AskWord i which) = IsLow c.rise × (c.talk ≡ None)
 CanAct c (AwaitWord i which) = IsLow c.rise × (c.talk ≡ None)
 CanAct c (AwaitCleanInit i) = IsAtInit c.rise × (c.talk ≡ None)
-CanAct c (SetManager i n m r) = IsLow c.rise × (n < length c.managers) × (length c.managers ≡ 4) × (c.talk ≡ None)
+-- the mailboxes are set in INIT: what a slave says as it enters PREOP lies in one of them
+CanAct c (SetManager i n m r) = IsLow c.rise × (n < length c.managers) × (length c.managers ≡ 4) × (c.talk ≡ None) × (n < 2 → IsAtInit c.rise)
 CanAct c (SetFmmu i n f start) = IsLow c.rise × (n < length c.fmmus) × (length c.fmmus ≡ 4) × (c.talk ≡ None)
 CanAct c (AskState i state) = (c.talk ≡ None) × CanClimb c.rise state
 CanAct c (AwaitState i state) = (c.talk ≡ None) × IsClimbing c.rise state
-CanAct c (SendRequest i counter b r) = IsLow c.rise × (c.talk ≡ None) × AreMailboxes b c.managers × IsRequest r
-CanAct c (AwaitReply i b r) = IsLow c.rise × ((counter : ℕ) × (c.talk ≡ Some (record { mailbox = b; counter = counter; request = r }))) × AreMailboxes b c.managers
+-- messages go in PREOP
+CanAct c (SendRequest i counter b r) = (c.rise ≡ Stays PreOp) × (c.talk ≡ None) × AreMailboxes b c.managers × IsRequest r
+CanAct c (AwaitReply i b r) = (c.rise ≡ Stays PreOp) × ((counter : ℕ) × (c.talk ≡ Some (record { mailbox = b; counter = counter; request = r }))) × AreMailboxes b c.managers
+CanAct c (AwaitFreeReply i b r) = (c.rise ≡ Stays PreOp) × ((counter : ℕ) × (c.talk ≡ Some (record { mailbox = b; counter = counter; request = r }))) × AreMailboxes b c.managers
 CanAct c _ = ⊥
 
 abbrev pub IsUp : Stage → Type 0
@@ -261,6 +276,7 @@ Fits i st (AskState t state) = FitsOne t i st (AskState t state)
 Fits i st (AwaitState t state) = FitsOne t i st (AwaitState t state)
 Fits i st (SendRequest t counter b r) = FitsOne t i st (SendRequest t counter b r)
 Fits i st (AwaitReply t b r) = FitsOne t i st (AwaitReply t b r)
+Fits i st (AwaitFreeReply t b r) = FitsOne t i st (AwaitFreeReply t b r)
 
 -- A manager and an FMMU that the slave has are set by the number and the address that its registers have for them.
 abbrev pub IsNamed : SlaveKind → ℕ → Action → Type 0
@@ -292,6 +308,7 @@ prepared p = record {
   talk = None;
   outs = fresh.outs;
   ins = fresh.ins;
+  done = fresh.done;
   rise = Stays PreOp;
 }
 

@@ -1,33 +1,40 @@
 -- That a slave stands at a stage of a start-up.
-use Rattle.std.specs.Prelude.{ℕ, ◌+◌, ◌<◌, ◌≤◌, ◌≡◌, ◌≢◌, ◌⊎◌, List, length, take, slice_index, Bool, true, false, Option, Some, None}
+use Rattle.std.specs.Prelude.{ℕ, ◌+◌, ◌<◌, ◌≤◌, ◌≡◌, ◌≢◌, ◌⊎◌, ◌&&◌, ◌||◌, not, nat_lt, List, [], length, take, slice_index, Bool, true, false, if◌then◌else◌, Option, Some, None, is_some}
 use Rattle.std.specs.Option.{ForSome}
 use Rattle.ec_regs.specs.Memory.{fmmus, fmmu_start, ram_end}
 use Rattle.ec_regs.specs.Words.{al_word}
-use Rattle.ec_regs.specs.Managers.{no_settings}
+use Rattle.ec_regs.specs.declared.manager.SyncManagerSettings.{SyncManagerSettings}
+use Rattle.ec_regs.specs.Managers.{no_settings, is_set, is_mailbox, is_master_read}
 use Rattle.ec_regs.specs.Fmmus.{fmmu_bytes}
 use Rattle.ec_regs.specs.Names.{shown_fmmu}
 use Rattle.ec_device.specs.Types.{SlaveKind}
-use Rattle.ec_device.specs.Hardware.{has_firmware}
+use Rattle.ec_device.specs.Hardware.{has_firmware, has_emergency, is_assignable}
 use Rattle.ec_sync.specs.Buffer.{Buffer, emptied_buffer}
 use Rattle.ec_sync.specs.SyncManager.{SyncManager, buffer_length}
 use Rattle.ec_al.specs.declared.state.State.{State}
 use Rattle.ec_al.specs.declared.state.State.TheVariants.{Init, SafeOp, Op}
 use Rattle.ec_al.specs.States.{state_number}
 use Rattle.ec_slave.specs.State.{SlaveState, manager_at, station_of, power_on}
-use Rattle.ec_coe.specs.Objects.{Assignment, all_assigned}
+use Rattle.ec_coe.specs.Objects.{Assignment, all_assigned, has_some}
+use Rattle.ec_slave.specs.Serving.{is_init, dictionary_of}
 use Rattle.ec_slave.specs.Checking.{control_word}
 use Rattle.ec_slave.specs.Physical.{is_missing}
-use Rattle.ec_coe.specs.Messages.{message_read}
+use Rattle.ec_coe.specs.Messages.{message_length, message_read}
+use Rattle.ec_coe.specs.Replies.{is_aside}
+use Rattle.ec_coe.specs.Emergency.{emergency_bytes}
 use Rattle.ec_start.specs.Plans.{settings_at, fmmu_at}
 use Rattle.ec_start.specs.Actions.{station, filled, request_bytes}
+use Rattle.ec_start.specs.declared.action.SdoRequest.{SdoRequest}
+use Rattle.ec_start.specs.declared.verdict.Verdict.{Verdict}
 use Rattle.ec_start.specs.declared.verdict.Verdict.TheVariants.{Next}
-use Rattle.ec_start.specs.Verdicts.{message_verdict}
-use Rattle.ec_bringup.specs.Stages.{Rise, Falls, Stays, Climbs, Claim, Talk, Config, Stage, Before, Called, Down, Lowered, Up, answered, IsStepUp}
+use Rattle.ec_start.specs.Verdicts.{message_verdict, free_verdict}
+use Rattle.ec_bringup.specs.Stages.{Rise, Falls, Stays, Climbs, Claim, Talk, Config, Stage, Before, Called, Down, Lowered, Up, answered, IsStepUp, IsEarly}
 use Rattle.ec_start.specs.Planned.{AreMailboxes, IsRequest}
+use Rattle.ec_bringup.specs.Dictionaries.{Came, sizes_of, sizes_in}
 
 -- ---- at every instant of a world
 
--- the assignment of a slave without a mailbox can't be changed
+-- the assignment of a slave without a mailbox, or whose device has it fixed, can't be changed
 pub record HasAll (s : SlaveState) : Type 0 where
   pub outs : s.outs ≡ all_assigned s.kind.outputs
   pub ins : s.ins ≡ all_assigned s.kind.inputs
@@ -38,7 +45,9 @@ pub record IsOfKind (kind : SlaveKind) (s : SlaveState) : Type 0 where
   pub four : length s.managers ≡ 4
   pub outs : length s.outs.slots ≡ length kind.outputs
   pub ins : length s.ins.slots ≡ length kind.inputs
-  pub fixed : kind.mailbox ≡ None → HasAll s
+  pub fixed : is_assignable kind.mailbox kind.hardware ≡ false → HasAll s
+  -- a value for each parameter, of its size
+  pub sizes : sizes_of s.values ≡ sizes_in kind.init
   pub unlocked_in_init : s.al.state ≡ Init → (n : ℕ) → n < 4 → (manager_at s.managers n).locked ≡ false
   -- the registers of FMMUs that it lacks
   pub missing : (a : ℕ) → is_missing kind.hardware a ≡ true → slice_index s.memory a ≡ 0
@@ -114,27 +123,48 @@ pub record Claims (c : Claim) (a : Assignment) : Type 0 where
 pub record IsAssigned (c : Config) (s : SlaveState) : Type 0 where
   pub outs : Claims c.outs s.outs
   pub ins : Claims c.ins s.ins
+  -- and the values of its parameters
+  pub came : Came s.kind c.done (dictionary_of s)
 
--- the request lies in manager 0
+-- a manager of these settings takes a message with an SDO from its slave, once it is unlocked and empty
+abbrev pub takes_messages : SyncManagerSettings → Bool
+takes_messages m = is_set m && (is_mailbox m && (is_master_read m && not (nat_lt m.length message_length)))
+
+-- what a slave says as it enters PREOP: the emergency that its type may have
+abbrev pub greeting_of : SlaveKind → SyncManagerSettings → Option (List ℕ)
+greeting_of kind m =
+    if has_emergency kind.hardware && (is_some kind.mailbox && takes_messages m) then Some (filled m.length (emergency_bytes 1)) else None
+
+-- it lies in manager 1 until it is read, before the first reply
+abbrev pub left_to_say : Config → SlaveState → Option (List ℕ)
+left_to_say c s = if has_some c.done || is_init s.al.state then None else greeting_of s.kind (manager_at s.managers 1).settings
+
+-- the request lies in manager 0, and perhaps what was said before in manager 1
 pub record IsSent (t : Talk) (c : Config) (s : SlaveState) : Type 0 where
   pub mailboxes : AreMailboxes t.mailbox c.managers
   pub request : IsRequest t.request
   pub mailbox_message : (manager_at s.managers 0).mail ≡ Some (filled t.mailbox.receive_size (request_bytes t.counter t.request))
-  pub no_reply : (manager_at s.managers 1).mail ≡ None
+  pub no_reply : ((manager_at s.managers 1).mail ≡ None) ⊎ ((manager_at s.managers 1).mail ≡ left_to_say c s)
   pub assigned : IsAssigned c s
 
--- the reply lies in manager 1; if it is one that fits, the request was done
+-- what a start-up makes of a reply, of a table with `hardware` or without
+abbrev pub raw_verdict : (hardware : Bool) → ℕ → SdoRequest → List ℕ → Verdict
+raw_verdict false i r raw = message_verdict i r (message_read raw)
+raw_verdict true i r raw = free_verdict i r raw
+
+-- the reply lies in manager 1, and is none that is set aside; if it is one that fits, the request was done
 pub record IsReplied (i : ℕ) (t : Talk) (c : Config) (s : SlaveState) : Type 0 where
   pub mailboxes : AreMailboxes t.mailbox c.managers
   pub no_message : (manager_at s.managers 0).mail ≡ None
   pub raw : List ℕ
   pub whole : length raw ≡ t.mailbox.send_size
   pub reply : (manager_at s.managers 1).mail ≡ Some raw
-  pub done : message_verdict i t.request (message_read raw) ≡ Next → IsAssigned (answered c t.request) s
+  pub plain : is_aside raw ≡ false
+  pub done : (hardware : Bool) → raw_verdict hardware i t.request raw ≡ Next → IsAssigned (answered c t.request) s
 
 pub record IsSilent (c : Config) (s : SlaveState) : Type 0 where
   pub no_message : (manager_at s.managers 0).mail ≡ None
-  pub no_reply : (manager_at s.managers 1).mail ≡ None
+  pub no_reply : (manager_at s.managers 1).mail ≡ left_to_say c s
   pub assigned : IsAssigned c s
 
 abbrev pub Talks : ℕ → Config → Option Talk → SlaveState → Type 0
@@ -151,7 +181,8 @@ pub record IsUpAt (i : ℕ) (c : Config) (s : SlaveState) : Type 0 where
   pub unlocked : (n : ℕ) → n < 4 → (manager_at s.managers n).locked ≡ false
   pub rises : Rises c.rise s
   pub talks : Talks i c c.talk s
-  -- messages are over before SAFEOP is left
+  -- messages begin in PREOP, and are over before SAFEOP is left
+  pub early : IsEarly c.rise → (c.talk ≡ None) × (c.done ≡ [])
   pub quiet : IsTop c.rise → c.talk ≡ None
 
 pub record AreClear (s : SlaveState) : Type 0 where

@@ -28,8 +28,8 @@ pub record IsSpelled (identity : Device) (s : SlaveState) : Type 0 where
   pub revision : s.sii.image.identity.revision ≡ identity.revision
 
 -- A device of a type, in any state: nothing is asked of its registers, its managers, its messages, its AL state, an error, a
--- request or a read that waits. `IsOfKind` says that in INIT no manager is locked, and that without a mailbox the assignment
--- is that of power-on: every event of a slave keeps both.
+-- request or a read that waits. `IsOfKind` says that in INIT no manager is locked, and that an assignment which can't be written is
+-- that of power-on: every event of a slave keeps both.
 pub record IsDevice (kind : SlaveKind) (s : SlaveState) : Type 0 where
   pub slave : IsOfKind kind s
   pub spelled : IsSpelled kind.device s

@@ -6,7 +6,7 @@ ghost use Rattle.ec_bringup.specs.Runs.{BeginningLaw, StartUpLaw};
 ghost use Rattle.ec_bringup.specs.Undisturbed.{RoundLaw};
 ghost use Rattle.ec_bringup.specs.Devices.{DevicesLaw, IdentitiesLaw, RingLaw, SlavesOfLaw, SwitchedOnLaw, TypedSlavesLaw};
 ghost use Rattle.ec_bringup.specs.Applied.{AppliedUpLaw};
-ghost use Rattle.ec_bringup.specs.ComesUp.{AgainLaw, ComesUpLaw, CompiledPlansLaw, CompiledUpLaw, PlainUpLaw};
+ghost use Rattle.ec_bringup.specs.ComesUp.{AgainLaw, ComesUpLaw, CompiledPlansLaw, CompiledUpLaw, FramesAreFew, PlainUpLaw};
 
 /// After every run of a new segment (`Starting`) that makes it ready, each slave works as the plan says, or it had a fault or a
 /// reset since the first frame of that start-up was sent.
@@ -19,8 +19,9 @@ pub fn beginning()
     ensures { BeginningLaw }
 {}
 
-/// A start-up that nothing disturbs is Ready after one frame for each action of its script, and one for each part before each that
-/// asks for OP or looks for it. Its slaves are devices of the plan's types, in any state.
+/// A start-up that nothing disturbs is Ready after one frame for each action of its script, one for each part before each that asks
+/// for OP or looks for it, and the further polls that slow slaves and emergencies take. Its slaves are devices of the plan's types, in
+/// any state, whose parameters agree with what the plan assigns.
 pub fn comes_up()
     ensures { ComesUpLaw }
 {}
@@ -28,6 +29,11 @@ pub fn comes_up()
 /// Without `hardware` it is Ready after one frame for each action of its script.
 pub fn comes_up_without_hardware()
     ensures { PlainUpLaw }
+{}
+
+/// An undisturbed start-up takes few frames, whatever state the slaves are in, and at least one.
+pub fn frames_are_few()
+    ensures { FramesAreFew }
 {}
 
 /// The parts of a plan of the link compiler can be fed, and come back with the counters that are expected.

@@ -8,10 +8,9 @@ ghost use Rattle.ec_start.specs.declared.phase.NextFrame.TheVariants.{Send};
 ghost use Rattle.ec_start.specs.declared.phase.Phase.TheVariants.{Failed, Idle};
 ghost use Rattle.ec_start.specs.Running.{asked, begun, is_ended, is_sent, last_number, next_frame};
 ghost use Rattle.ec_start.specs.declared.action.Feed.{Feed};
-ghost use Rattle.ec_start.specs.Feeding.{frames_of};
-ghost use Rattle.ec_start.specs.Scripts.{script};
 ghost use Rattle.ec_bringup.specs.BringUp.{rising, IsBroughtTo};
-ghost use Rattle.ec_bringup.specs.ComesUp.{IsUpAndWorks};
+ghost use Rattle.ec_bringup.specs.ComesUp.{AllAgree, IsUpAndWorks};
+ghost use Rattle.ec_bringup.specs.Counting.{frames_up};
 ghost use Rattle.ec_bringup.specs.Undisturbed.{ArePlansWith, AreDevices, turned};
 
 use ec_frame::Frame;
@@ -20,9 +19,9 @@ use ec_start::{NextFrame, Startup};
 
 /// Brings the slaves of a ring up. In each turn the next frame of the start-up passes all slaves, each slave serves once, and
 /// the frame is taken back, until the start-up has ended. It always ends, and is never given up. A new start-up of a plan of the
-/// link compiler ends Ready over devices of the plan's types, whatever state they are in. It takes exactly one frame for each
-/// action of its script, and with `hardware` one for each part before each that asks for OP or looks for it. Then every slave works as
-/// planned.
+/// link compiler ends Ready over devices of the plan's types, whatever state they are in, if the types' parameters agree with what
+/// the plan assigns. It takes exactly `frames_up` frames: one for each action of its script, and with `hardware` one for each part
+/// before each that asks for OP or looks for it, and further polls of slow slaves. Then every slave works as planned.
 ///
 /// No frame of the start-up may be outstanding.
 pub fn bring_up(startup: &mut Startup<'_>, ring: &mut Ring)
@@ -31,8 +30,8 @@ pub fn bring_up(startup: &mut Startup<'_>, ring: &mut Ring)
     ensures plan { startup.new.plan ≡ startup.old.plan }
     ensures ended { is_ended startup.new.phase ≡ true }
     ensures not_given_up { startup.old.phase ≡ Idle → startup.new.phase ≢ Failed Lost }
-    ensures up { (ps : List SlavePlan) (fs : List Feed) (from : ℕ) → ArePlansWith ps fs → startup.old ≡ begun ps fs from → AreDevices ps ring.old
-        → from + frames_of fs (script ps) ≤ last_number → IsUpAndWorks ps (from + frames_of fs (script ps)) (rising startup.new ring.new) }
+    ensures up { (ps : List SlavePlan) (fs : List Feed) (from : ℕ) → ArePlansWith ps fs → AllAgree ps → startup.old ≡ begun ps fs from → AreDevices ps ring.old
+        → from + frames_up ps fs ring.old ≤ last_number → IsUpAndWorks ps (from + frames_up ps fs ring.old) (rising startup.new ring.new) }
 {
     make_turns(startup, ring)
 }

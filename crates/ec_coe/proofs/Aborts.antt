@@ -1,10 +1,18 @@
 -- The abort that a slave answers with is the first whose cause holds.
-use Rattle.std.proofs.Common.{ℕ, zero, suc, ◌+◌, ◌<◌, ◌≤◌, ◌≡◌, ◌≢◌, ◌==◌, ◌&&◌, ◌||◌, ◌⊎◌, not, Bool, true, false, if◌then◌else◌, nat_le, refl, sym, ◌∙◌, ap, subst, inl, inr, arith, add-one, List, [], ◌∷◌, length, take, slice_get, Option, Some, None, is_some, Result, Ok, Err}
-use Rattle.std.proofs.lemmas.Option.{slice_get_within, slice_get_cases}
+use Rattle.std.proofs.Common.{ℕ, zero, suc, ◌+◌, ◌<◌, ◌≤◌, ◌≡◌, ◌≢◌, ◌==◌, ◌&&◌, ◌||◌, ◌⊎◌, not, Bool, true, false, if◌then◌else◌, nat_le, refl, sym, ◌∙◌, ap, subst, inl, inr, arith, add-one, List, [], ◌∷◌, length, take, set, get_or, slice_get, Option, Some, None, is_some, Result, Ok, Err}
+use Rattle.std.specs.List.{list_any}
+use Rattle.std.specs.Option.{option_or}
+use Rattle.std.proofs.lemmas.Option.{slice_get_within, slice_get_cases, slice_get-get_or}
+use Rattle.std.proofs.lemmas.List.Quantifiers.{position-Some}
 use Rattle.std.proofs.lemmas.Map.Keys.{any_passes_from_place}
-use Rattle.std.proofs.lemmas.Bool.{cases_Bool, cases_lt, cases_order, false≢true, eqb-true, eqb-false, eq-eqb, ne_eqb, leb-true, leb-false, and_parts, and_cases, and_left, and_right, or_cases, or_parts, not-false, not_from_true}
+use Rattle.std.proofs.lemmas.Bool.{cases_Bool, cases_lt, cases_order, false≢true, eqb-true, eqb-false, eq-eqb, ne_eqb, leb-true, leb-false, and_parts, and_cases, and_from, and_left, and_right, or_cases, or_left, or_right, or_parts, not-false, not-true, not_from_true}
+use Rattle.ec_bits.proofs.AnyLaws.{if_true, if_false}
 use Rattle.ec_device.specs.declared.slave_type.Pdo.{Pdo}
 use Rattle.ec_device.specs.declared.slave_type.Face.{Face}
+use Rattle.ec_device.specs.declared.parameter.Parameter.{Parameter}
+use Rattle.ec_device.specs.declared.parameter.ParameterSize.TheVariants.{One as OneByte}
+use Rattle.ec_device.specs.Hardware.{is_fixed}
+use Rattle.ec_device.specs.Parameters.{is_of, parameter_at}
 use Rattle.ec_device.specs.Objects.{pdo_at, bits_assigned}
 use Rattle.ec_coe.specs.declared.value.ValueSize.{ValueSize}
 use Rattle.ec_coe.specs.declared.value.SdoValue.{SdoValue}
@@ -15,10 +23,11 @@ use Rattle.ec_coe.specs.declared.message.Message.{Message}
 use Rattle.ec_coe.specs.declared.abort_code.AbortCode.{AbortCode}
 use Rattle.ec_coe.specs.declared.abort_code.AbortCode.TheVariants.{InvalidCommand, ReadOnly, NoObject, WrongLength, NoSubindex, InvalidValue, WrongState}
 use Rattle.ec_coe.specs.Messages.{size_number}
-use Rattle.ec_coe.specs.Objects.{Assignment, Dictionary, output_assignment, input_assignment, device_name_object, object_values}
-use Rattle.ec_coe.specs.Transfers.{abort_number, value_or_abort, value_at, uploaded, contains, distinct, max_bits, takes_count, takes_value, with_value, is_open, assignment_written, with_outs, with_ins, is_assignment, written_over, downloaded}
+use Rattle.ec_coe.specs.Objects.{Assignment, Dictionary, output_assignment, input_assignment, is_assignment, device_name_object, object_values, own_values, no_values_if, has_parameters, parameter_of}
+use Rattle.ec_coe.specs.Transfers.{abort_number, value_or_abort, value_at, kept_value, uploaded, contains, distinct, max_bits, takes_count, takes_value, with_value, is_open, assignment_written, with_outs, with_ins, object_written, written_by, downloaded}
 use Rattle.ec_coe.specs.Answers.{Answer, abort_to, has_long_name, upload_reply, download_answer, value_of, invalid_answer, answer_by, answered}
-use Rattle.ec_coe.specs.AbortLaw.{pdos_at, assignment_at, Downloads, HasTwice, IsBadCount, IsBadIndex, HasInvalidValue, Causes, rank_of, IsFirstAbort, FirstAbort}
+use Rattle.ec_coe.specs.AbortLaw.{pdos_at, assignment_at, Downloads, IsNoParameter, HasTwice, IsBadCount, IsBadIndex, HasInvalidValue, Causes, rank_of, IsFirstAbort, FirstAbort}
+use Rattle.ec_coe.proofs.Devices.{upload-unlisted, parameter-shown, parameter-taken}
 use Rattle.ec_coe.specs.AbortLaw.IsBadCount.{TooMany, Double, TooLong}
 
 -- ---- in order
@@ -159,43 +168,75 @@ answered_download p d m size e is h counter =
 
 -- ---- where the value is
 
-uploaded_none : (d : Dictionary) (m : Message) → object_values d m.index ≡ None → uploaded d m.index m.subindex ≡ Err NoObject
-unfolding uploaded
-uploaded_none d m h = ap (λ o. value_at o m.subindex) h
+-- an object with a parameter is there
+no_row : Parameter
+no_row = record { index = 0; subindex = 0; size = OneByte; value = 0 }
 
-uploaded_past : (d : Dictionary) (m : Message) (vs : List SdoValue) → object_values d m.index ≡ Some vs → slice_get vs m.subindex ≡ None → uploaded d m.index m.subindex ≡ Err NoSubindex
-unfolding uploaded
-uploaded_past d m vs h g = ap (λ o. value_at o m.subindex) h ∙ ap value_or_abort g
+listed : (qs : List Parameter) (index subindex place : ℕ) → parameter_at qs index subindex ≡ Some place → list_any (λ (q : Parameter). q.index == index) qs ≡ true
+listed qs index subindex place e =
+    let at = position-Some (is_of index subindex) qs place no_row e in
+    let row : Parameter = get_or qs place no_row in
+    let parts = and_parts (row.index == index) (row.subindex == subindex) at.1 in
+    any_passes_from_place (λ (q : Parameter). q.index == index) qs place row (slice_get-get_or qs place no_row at.0) parts.0
 
-uploaded_there : (d : Dictionary) (m : Message) (vs : List SdoValue) (v : SdoValue) → object_values d m.index ≡ Some vs → slice_get vs m.subindex ≡ Some v → uploaded d m.index m.subindex ≡ Ok v
-unfolding uploaded
-uploaded_there d m vs v h g = ap (λ o. value_at o m.subindex) h ∙ ap value_or_abort g
+some_or : {X : Type 0} (o : Option X) (x : X) → option_or o (Some x) ≡ None → ⊥
+some_or None x e = cc
+some_or (Some y) x e = cc
+
+there_with : (d : Dictionary) (index subindex place : ℕ) → parameter_of d.kind index subindex ≡ Some place → own_values d index ≡ None → ⊥
+there_with d index subindex place e none = elim (cases_Bool (is_assignment index || is_some d.kind.face)) [
+  | inl on ↦ let z : None ≡ Some place = sym (if_true _ _ _ on) ∙ e in cc
+  | inr off ↦
+      let at : parameter_at d.kind.init index subindex ≡ Some place = sym (if_false _ _ _ off) ∙ e in
+      let has : has_parameters d.kind index ≡ true = and_from _ _ (ap not off) (listed d.kind.init index subindex place at) in
+      some_or (object_values d index) [] (sym (ap (λ (b : Bool). option_or (object_values d index) (no_values_if b)) has) ∙ none)
+]
+
+uploaded_none : (d : Dictionary) (m : Message) → IsNoParameter d m → own_values d m.index ≡ None → uploaded d m.index m.subindex ≡ Err NoObject
+uploaded_none d m e h = upload-unlisted d m.index m.subindex e ∙ ap (λ o. value_at o m.subindex) h
+
+uploaded_past : (d : Dictionary) (m : Message) (vs : List SdoValue) → IsNoParameter d m → own_values d m.index ≡ Some vs → slice_get vs m.subindex ≡ None → uploaded d m.index m.subindex ≡ Err NoSubindex
+uploaded_past d m vs e h g = upload-unlisted d m.index m.subindex e ∙ (ap (λ o. value_at o m.subindex) h ∙ ap value_or_abort g)
+
+value_there : (d : Dictionary) (m : Message) (vs : List SdoValue) (v : SdoValue) → own_values d m.index ≡ Some vs → slice_get vs m.subindex ≡ Some v → value_at (own_values d m.index) m.subindex ≡ Ok v
+value_there d m vs v h g = ap (λ o. value_at o m.subindex) h ∙ ap value_or_abort g
 
 past_end : (vs : List SdoValue) (k : ℕ) → slice_get vs k ≡ None → length vs ≤ k
 past_end vs k h = elim ((slice_get_cases vs k).1) [ inl in_it ↦ absurd (let at = in_it.2 in cc) | inr out ↦ out.0 ]
 
--- a request of a command that the slave has: its object and value, or one of the two aborts
+listed_none : (p : Bool) (d : Dictionary) (m : Message) (place : ℕ) → parameter_of d.kind m.index m.subindex ≡ Some place → IsNoParameter d m → ⊥
+listed_none p d m place e none = let z : None ≡ Some place = sym none ∙ e in cc
+
+-- a request of a command that the slave has: its parameter, or its object's value, or one of the two aborts
 module _ (p : Bool) (d : Dictionary) (m : Message) (abort : (code : AbortCode) → uploaded d m.index m.subindex ≡ Err code → (counter : ℕ) → answered p d m counter ≡ record { reply = abort_to m counter code; dictionary = d })
-    (go : (vs : List SdoValue) (v : SdoValue) → Clean p d m 3 → object_values d m.index ≡ Some vs → slice_get vs m.subindex ≡ Some v → uploaded d m.index m.subindex ≡ Ok v → Verdict p d m) where
-  at_value : (vs : List SdoValue) → Clean p d m 2 → object_values d m.index ≡ Some vs → (s : Option SdoValue) → slice_get vs m.subindex ≡ s → Verdict p d m
-  at_value vs clean h None g = aborts p d m NoSubindex clean (record { values = vs; object = h; past = past_end vs m.subindex g }) (abort NoSubindex (uploaded_past d m vs h g))
-  at_value vs clean h (Some v) g =
-      go vs v (clean_more p d m 2 clean (λ c.
+    (go : (v : SdoValue) → Clean p d m 3 → IsNoParameter d m → value_at (own_values d m.index) m.subindex ≡ Ok v → uploaded d m.index m.subindex ≡ Ok v → Verdict p d m)
+    (keep : (place : ℕ) → Clean p d m 3 → parameter_of d.kind m.index m.subindex ≡ Some place → Verdict p d m) where
+  at_value : (vs : List SdoValue) → Clean p d m 2 → IsNoParameter d m → own_values d m.index ≡ Some vs → (s : Option SdoValue) → slice_get vs m.subindex ≡ s → Verdict p d m
+  at_value vs clean e h None g = aborts p d m NoSubindex clean (record { no_parameter = e; values = vs; object = h; past = past_end vs m.subindex g }) (abort NoSubindex (uploaded_past d m vs e h g))
+  at_value vs clean e h (Some v) g =
+      go v (clean_more p d m 2 clean (λ c.
       let same : c.values ≡ vs = let o = c.object in cc in
       let lt : m.subindex < length vs = slice_get_within vs m.subindex v g in
       let past : length vs ≤ m.subindex = subst (λ ws. length ws ≤ m.subindex) same c.past in
-      omega arith)) h g (uploaded_there d m vs v h g)
+      omega arith)) e (value_there d m vs v h g) (upload-unlisted d m.index m.subindex e ∙ value_there d m vs v h g)
 
-  at_object : Clean p d m 1 → (o : Option (List SdoValue)) → object_values d m.index ≡ o → Verdict p d m
-  at_object clean None h = aborts p d m NoObject clean (record { none = h }) (abort NoObject (uploaded_none d m h))
-  at_object clean (Some vs) h = at_value vs (clean_more p d m 1 clean (λ c. let o = c.none in cc)) h (slice_get vs m.subindex) refl
+  at_object : Clean p d m 1 → IsNoParameter d m → (o : Option (List SdoValue)) → own_values d m.index ≡ o → Verdict p d m
+  at_object clean e None h = aborts p d m NoObject clean (record { none = h }) (abort NoObject (uploaded_none d m e h))
+  at_object clean e (Some vs) h = at_value vs (clean_more p d m 1 clean (λ c. let o = c.none in cc)) e h (slice_get vs m.subindex) refl
+
+  at_parameter : Clean p d m 1 → (o : Option ℕ) → parameter_of d.kind m.index m.subindex ≡ o → Verdict p d m
+  at_parameter clean None e = at_object clean e (own_values d m.index) refl
+  at_parameter clean (Some place) e =
+      keep place (clean_more p d m 2 (clean_more p d m 1 clean (λ c. there_with d m.index m.subindex place e c.none)) (λ c. listed_none p d m place e c.no_parameter)) e
 
 upload_verdict : (p : Bool) (d : Dictionary) (m : Message) → m.command ≡ UploadRequest → Verdict p d m
 upload_verdict p d m is =
     let off = no_download_is p d m is in
-    at_object p d m (λ code h. aborted_upload p d m code is h) (λ vs v clean h g u.
-    Answers (clean_more p d m 6 (clean_more p d m 5 (clean_more p d m 4 (clean_more p d m 3 clean (λ c. off c.size c.download)) (λ c. off c.size c.download)) (λ c. off c.size c.download)) (λ c. off c.size c.download))
-    (answered_upload p d m v is u)) (clean_more p d m 0 (clean_none p d m) (λ c. c.no_upload is)) (object_values d m.index) refl
+    let whole : Clean p d m 3 → Clean p d m 7
+    = λ clean. clean_more p d m 6 (clean_more p d m 5 (clean_more p d m 4 (clean_more p d m 3 clean (λ c. off c.size c.download)) (λ c. off c.size c.download)) (λ c. off c.size c.download)) (λ c. off c.size c.download) in
+    at_parameter p d m (λ code h. aborted_upload p d m code is h) (λ v clean e w u. Answers (whole clean) (answered_upload p d m v is u))
+    (λ place clean e. Answers (whole clean) (answered_upload p d m (kept_value d.values place) is (parameter-shown d m.index m.subindex place e)))
+    (clean_more p d m 0 (clean_none p d m) (λ c. c.no_upload is)) (parameter_of d.kind m.index m.subindex) refl
 
 -- ---- a value that is taken
 
@@ -330,30 +371,71 @@ open_is p a subindex h closed =
       ]
     ]
 
-module _ (p : Bool) (d : Dictionary) (m : Message) (size : ValueSize) (is : m.command ≡ DownloadRequest size) (vs : List SdoValue) (v : SdoValue) (object : object_values d m.index ≡ Some vs) (there : slice_get vs m.subindex ≡ Some v) (found : uploaded d m.index m.subindex ≡ Ok v) where
+abbrev good_value : SdoValue → Result SdoValue AbortCode
+good_value v = Ok v
+
+ok_same : (v w : SdoValue) → good_value v ≡ good_value w → v ≡ w
+ok_same v w e = cc
+
+ok_not_err : (v : SdoValue) (code : AbortCode) → good_value v ≡ Err code → ⊥
+ok_not_err v code e = cc
+
+-- what a download may be kept from, and when it isn't
+abbrev AssignsPdos : ℕ → Type 0
+AssignsPdos index = (index ≡ output_assignment) ⊎ (index ≡ input_assignment)
+
+assigns_not : (index : ℕ) → is_assignment index ≡ false → AssignsPdos index → ⊥
+assigns_not index off (inl outs) = false≢true (sym off ∙ or_left _ _ (eq-eqb index output_assignment outs))
+assigns_not index off (inr ins) = false≢true (sym off ∙ or_right _ _ (eq-eqb index input_assignment ins))
+
+assigns_is : (index : ℕ) → is_assignment index ≡ true → AssignsPdos index
+assigns_is index on = elim (or_cases (index == output_assignment) (index == input_assignment) on) [
+  | inl outs ↦ inl (eqb-true index output_assignment outs)
+  | inr ins ↦ inr (eqb-true index input_assignment ins)
+]
+
+kept_is : (index : ℕ) (fixed : Bool) → (not (is_assignment index) || fixed) ≡ true → (AssignsPdos index → ⊥) ⊎ (fixed ≡ true)
+kept_is index fixed on = elim (or_cases (not (is_assignment index)) fixed on) [
+  | inl off ↦ inl (assigns_not index (not-true (is_assignment index) off))
+  | inr f ↦ inr f
+]
+
+open_to : (index : ℕ) (fixed : Bool) → (not (is_assignment index) || fixed) ≡ false → ((AssignsPdos index → ⊥) ⊎ (fixed ≡ true)) → ⊥
+open_to index fixed off kept =
+    let parts = or_parts (not (is_assignment index)) fixed off in
+    elim kept [
+      | inl other ↦ other (assigns_is index (not-false (is_assignment index) parts.0))
+      | inr f ↦ false≢true (sym parts.1 ∙ f)
+    ]
+
+module _ (p : Bool) (d : Dictionary) (m : Message) (size : ValueSize) (is : m.command ≡ DownloadRequest size) (v : SdoValue) (none : IsNoParameter d m) (own : value_at (own_values d m.index) m.subindex ≡ Ok v) (found : uploaded d m.index m.subindex ≡ Ok v) where
   abbrev number : ℕ
   number = (value_of size m.value).number
 
   same_size : (z : ValueSize) → Downloads m z → z ≡ size
   same_size z h = let e : DownloadRequest z ≡ DownloadRequest size = sym h ∙ is in cc
 
-  chain : downloaded p d m.index m.subindex (value_of size m.value) ≡ written_over p d m.index m.subindex (value_of size m.value) (Ok v)
+  chain : downloaded p d m.index m.subindex (value_of size m.value) ≡ object_written p d m.index m.subindex (value_of size m.value) (Ok v)
   unfolding downloaded
-  chain = ap (written_over p d m.index m.subindex (value_of size m.value)) found
+  chain = ap (written_by p d m.index m.subindex (value_of size m.value)) none ∙ ap (object_written p d m.index m.subindex (value_of size m.value)) own
 
-  read_only : is_assignment m.index ≡ false → downloaded p d m.index m.subindex (value_of size m.value) ≡ Err ReadOnly
+  abbrev closed : Bool
+  closed = not (is_assignment m.index) || is_fixed d.kind.hardware
+
+  read_only : closed ≡ true → downloaded p d m.index m.subindex (value_of size m.value) ≡ Err ReadOnly
   read_only h = chain ∙ rw h refl
 
-  wrong_length : is_assignment m.index ≡ true → (size_number size == size_number v.size) ≡ false → downloaded p d m.index m.subindex (value_of size m.value) ≡ Err WrongLength
+  wrong_length : closed ≡ false → (size_number size == size_number v.size) ≡ false → downloaded p d m.index m.subindex (value_of size m.value) ≡ Err WrongLength
   wrong_length h g = chain ∙ rw (h, g) refl
 
-  to_assignment : is_assignment m.index ≡ true → (size_number size == size_number v.size) ≡ true → downloaded p d m.index m.subindex (value_of size m.value) ≡ by_direction p d m.index m.subindex number
+  to_assignment : closed ≡ false → (size_number size == size_number v.size) ≡ true → downloaded p d m.index m.subindex (value_of size m.value) ≡ by_direction p d m.index m.subindex number
   to_assignment h g = chain ∙ rw (h, g) refl
 
   invalid_is : takes_value (pdos_at d m.index) (assignment_at d m.index) m.subindex number ≡ false → HasInvalidValue d m
   invalid_is h = record {
     size = size;
     download = is;
+    no_parameter = none;
     count = λ z. let on : (m.subindex == 0) ≡ true = eq-eqb m.subindex 0 z in let f = rw on at h in bad_count (pdos_at d m.index) (assignment_at d m.index) number f;
     slot = λ z. let off : (m.subindex == 0) ≡ false = ne_eqb m.subindex 0 z in let f = rw off at h in record { none = none_at (pdos_at d m.index) number f };
   }
@@ -383,46 +465,81 @@ module _ (p : Bool) (d : Dictionary) (m : Message) (size : ValueSize) (is : m.co
   at_open : Clean p d m 5 → downloaded p d m.index m.subindex (value_of size m.value) ≡ by_direction p d m.index m.subindex number → Verdict p d m
   at_open clean to = elim (cases_Bool (is_open p (assignment_at d m.index) m.subindex)) [
     | inr closed ↦
-        aborts p d m WrongState clean (record { size = size; download = is; closed = closed_is p (assignment_at d m.index) m.subindex closed })
+        aborts p d m WrongState clean (record { size = size; download = is; no_parameter = none; closed = closed_is p (assignment_at d m.index) m.subindex closed })
         (aborted_download p d m size WrongState is (to ∙ refused_by p d m.index m.subindex number WrongState (closed_written p (pdos_at d m.index) (assignment_at d m.index) m.subindex number closed)))
     | inl ready ↦ at_taken (clean_more p d m 5 clean (λ c. open_is p (assignment_at d m.index) m.subindex ready c.closed)) to ready
   ]
 
-  at_length : Clean p d m 4 → is_assignment m.index ≡ true → Verdict p d m
+  at_length : Clean p d m 4 → closed ≡ false → Verdict p d m
   at_length clean h = elim (cases_Bool (size_number size == size_number v.size)) [
     | inr off ↦
-        aborts p d m WrongLength clean (record { size = size; download = is; values = vs; object = object; value = v; there = there; unlike = eqb-false (size_number size) (size_number v.size) off })
+        aborts p d m WrongLength clean (record { size = size; download = is; value = v; there = found; unlike = eqb-false (size_number size) (size_number v.size) off })
         (aborted_download p d m size WrongLength is (wrong_length h off))
     | inl on ↦
         at_open (clean_more p d m 4 clean (λ c.
-        let values : c.values ≡ vs = let o = c.object in cc in
-        let at : slice_get vs m.subindex ≡ Some c.value = subst (λ ws. slice_get ws m.subindex ≡ Some c.value) values c.there in
-        let value : c.value ≡ v = cc in
+        let value : c.value ≡ v = ok_same c.value v (sym c.there ∙ found) in
         c.unlike (ap size_number (same_size c.size c.download) ∙ eqb-true (size_number size) (size_number v.size) on ∙ ap (λ (x : SdoValue). size_number x.size) (sym value))))
         (to_assignment h on)
   ]
 
   at_index : Clean p d m 3 → Verdict p d m
-  at_index clean = elim (cases_Bool (is_assignment m.index)) [
-    | inr off ↦
-        let parts = or_parts (m.index == output_assignment) (m.index == input_assignment) off in
-        aborts p d m ReadOnly clean (record { size = size; download = is; no_outputs = eqb-false m.index output_assignment parts.0; no_inputs = eqb-false m.index input_assignment parts.1 })
-        (aborted_download p d m size ReadOnly is (read_only off))
+  at_index clean = elim (cases_Bool closed) [
     | inl on ↦
-        at_length (clean_more p d m 3 clean (λ c. elim (or_cases (m.index == output_assignment) (m.index == input_assignment) on) [
-          | inl outs ↦ c.no_outputs (eqb-true m.index output_assignment outs)
-          | inr ins ↦ c.no_inputs (eqb-true m.index input_assignment ins)
-        ])) on
+        aborts p d m ReadOnly clean (record { size = size; download = is; no_parameter = none; kept = kept_is m.index (is_fixed d.kind.hardware) on })
+        (aborted_download p d m size ReadOnly is (read_only on))
+    | inr off ↦ at_length (clean_more p d m 3 clean (λ c. open_to m.index (is_fixed d.kind.hardware) off c.kept)) off
   ]
 
-refused_early : (p : Bool) (d : Dictionary) (m : Message) (size : ValueSize) (code : AbortCode) → uploaded d m.index m.subindex ≡ Err code → downloaded p d m.index m.subindex (value_of size m.value) ≡ Err code
+refused_early : (p : Bool) (d : Dictionary) (m : Message) (size : ValueSize) (code : AbortCode) → IsNoParameter d m → value_at (own_values d m.index) m.subindex ≡ Err code → downloaded p d m.index m.subindex (value_of size m.value) ≡ Err code
 unfolding downloaded
-refused_early p d m size code h = ap (written_over p d m.index m.subindex (value_of size m.value)) h
+refused_early p d m size code e h = ap (written_by p d m.index m.subindex (value_of size m.value)) e ∙ ap (object_written p d m.index m.subindex (value_of size m.value)) h
+
+-- a value that can't be read can't be written
+refused_by_place : (p : Bool) (d : Dictionary) (m : Message) (size : ValueSize) (code : AbortCode) (o : Option ℕ) → parameter_of d.kind m.index m.subindex ≡ o → uploaded d m.index m.subindex ≡ Err code
+    → downloaded p d m.index m.subindex (value_of size m.value) ≡ Err code
+refused_by_place p d m size code None e h = refused_early p d m size code e (sym (upload-unlisted d m.index m.subindex e) ∙ h)
+refused_by_place p d m size code (Some place) e h = absurd (ok_not_err (kept_value d.values place) code (sym (parameter-shown d m.index m.subindex place e) ∙ h))
+
+refused_upload : (p : Bool) (d : Dictionary) (m : Message) (size : ValueSize) (code : AbortCode) → uploaded d m.index m.subindex ≡ Err code → downloaded p d m.index m.subindex (value_of size m.value) ≡ Err code
+refused_upload p d m size code h = refused_by_place p d m size code (parameter_of d.kind m.index m.subindex) refl h
+
+-- a parameter
+module _ (p : Bool) (d : Dictionary) (m : Message) (size : ValueSize) (is : m.command ≡ DownloadRequest size) (place : ℕ) (e : parameter_of d.kind m.index m.subindex ≡ Some place) where
+  abbrev old : SdoValue
+  old = kept_value d.values place
+
+  other_length : (size_number size == size_number old.size) ≡ false → downloaded p d m.index m.subindex (value_of size m.value) ≡ Err WrongLength
+  unfolding downloaded
+  other_length off = ap (written_by p d m.index m.subindex (value_of size m.value)) e ∙ if_false _ _ _ off
+
+  one_size : (z : ValueSize) → Downloads m z → z ≡ size
+  one_size z h = let f : DownloadRequest z ≡ DownloadRequest size = sym h ∙ is in cc
+
+  put_verdict : Clean p d m 3 → Verdict p d m
+  put_verdict clean =
+      let unread = clean_more p d m 3 clean (λ c. listed_none p d m place e c.no_parameter) in
+      elim (cases_Bool (size_number size == size_number old.size)) [
+        | inr off ↦
+            aborts p d m WrongLength unread
+            (record { size = size; download = is; value = old; there = parameter-shown d m.index m.subindex place e; unlike = eqb-false (size_number size) (size_number old.size) off })
+            (aborted_download p d m size WrongLength is (other_length off))
+        | inl on ↦
+            let long = clean_more p d m 4 unread (λ c.
+            let value : c.value ≡ old = ok_same c.value old (sym c.there ∙ parameter-shown d m.index m.subindex place e) in
+            c.unlike (ap size_number (one_size c.size c.download) ∙ eqb-true (size_number size) (size_number old.size) on ∙ ap (λ (x : SdoValue). size_number x.size) (sym value))) in
+            Answers (clean_more p d m 6 (clean_more p d m 5 long (λ c. listed_none p d m place e c.no_parameter)) (λ c. listed_none p d m place e c.no_parameter))
+            (answered_download p d m size (record d { values = set d.values place (value_of size m.value) }) is
+            (parameter-taken p d m.index m.subindex place (value_of size m.value) e (eqb-true (size_number size) (size_number old.size) on)))
+      ]
 
 download_verdict : (p : Bool) (d : Dictionary) (m : Message) (size : ValueSize) → m.command ≡ DownloadRequest size → Verdict p d m
 download_verdict p d m size is =
-    at_object p d m (λ code h. aborted_download p d m size code is (refused_early p d m size code h)) (λ vs v clean h g u. at_index p d m size is vs v h g u clean)
-    (clean_more p d m 0 (clean_none p d m) (λ c. c.no_download size is)) (object_values d m.index) refl
+    at_download (clean_more p d m 0 (clean_none p d m) (λ c. c.no_download size is)) (parameter_of d.kind m.index m.subindex) refl
+  where
+    at_download : Clean p d m 1 → (o : Option ℕ) → parameter_of d.kind m.index m.subindex ≡ o → Verdict p d m
+    at_download clean o e =
+        at_parameter p d m (λ code h. aborted_download p d m size code is (refused_upload p d m size code h)) (λ v k n w u. at_index p d m size is v n w u k)
+        (λ place k q. put_verdict p d m size is place q k) clean o e
 
 -- ---- the whole
 

@@ -1,12 +1,17 @@
 -- Assignments stay lists of the type's own PDOs, without a double and of few enough bits.
-use Rattle.std.proofs.Common.{ℕ, ◌-◌, ◌<◌, ◌≤◌, ◌≡◌, ◌==◌, ◌&&◌, Bool, true, false, refl, sym, ◌∙◌, ap, subst, inl, inr, arith, List, [], length, set, take, get_or, is_some, length-set, get_or-set_same, get_or-set_other}
-use Rattle.std.proofs.lemmas.Bool.{cases_eq, eqb-true, leb-true}
+use Rattle.std.proofs.Common.{ℕ, ◌-◌, ◌<◌, ◌≤◌, ◌≡◌, ◌==◌, ◌&&◌, ◌||◌, Bool, true, false, Option, Some, None, refl, sym, ◌∙◌, ap, subst, inl, inr, arith, List, [], length, set, take, get_or, is_some, length-set, get_or-set_same, get_or-set_other}
+use Rattle.std.proofs.lemmas.Bool.{cases_Bool, cases_eq, eqb-true, leb-true}
+use Rattle.ec_bits.proofs.AnyLaws.{if_true, if_false}
 use Rattle.ec_device.specs.declared.slave_type.Pdo.{Pdo}
 use Rattle.ec_device.specs.Objects.{pdo_at, bits_assigned}
-use Rattle.ec_coe.specs.Objects.{Assignment, Dictionary}
+use Rattle.ec_device.specs.declared.parameter.Parameter.{Parameter}
+use Rattle.ec_device.specs.Parameters.{parameter_at}
+use Rattle.ec_device.specs.Types.{SlaveKind}
+use Rattle.ec_coe.specs.declared.value.SdoValue.{SdoValue}
+use Rattle.ec_coe.specs.Objects.{Assignment, Dictionary, is_assignment, parameter_of}
 use Rattle.ec_coe.specs.Transfers.{distinct, max_bits, takes_count}
 use Rattle.ec_coe.specs.Laws.{IsAssignment, KeepsAssignments, ChangesInPreopAlone, AnswersKeepAssignments}
-use Rattle.ec_coe.proofs.DownloadEffects.{Assigned, Counted, Slotted, Outputs, Inputs, Changed, Same, Done, answered-changed}
+use Rattle.ec_coe.proofs.DownloadEffects.{Assigned, Counted, Slotted, Downloaded, Outputs, Inputs, Effect, Assigns, Puts, Changed, Same, Done, answered-changed}
 
 both-second : (a b : Bool) → (a && b) ≡ true → b ≡ true
 both-second true b e = e
@@ -48,32 +53,69 @@ assigned-stays : (ps : List Pdo) (a b : Assignment) (subindex number : ℕ) → 
 assigned-stays ps a b subindex number (Counted z t e) h = counted-stays ps a b number t e h
 assigned-stays ps a b subindex number (Slotted z o t e) h = slotted-stays ps a b (subindex - 1) number o t e h
 
-changed-keeps : (in_preop : Bool) (d e : Dictionary) → Changed in_preop d e → KeepsAssignments d e
-changed-keeps in_preop d e (Same q) = record {
-  kind = ap (λ (x : Dictionary). x.kind) q;
-  identity = ap (λ (x : Dictionary). x.identity) q;
-  outputs = λ h. subst (λ (x : Dictionary). IsAssignment d.kind.outputs x.outs) (sym q) h;
-  inputs = λ h. subst (λ (x : Dictionary). IsAssignment d.kind.inputs x.ins) (sym q) h;
-}
-changed-keeps in_preop d e (Done p index subindex number (Outputs i b q a)) = record {
+downloaded-keeps : (d e : Dictionary) (index subindex number : ℕ) → Downloaded d index subindex number e → KeepsAssignments d e
+downloaded-keeps d e index subindex number (Outputs i b q a) = record {
   kind = ap (λ (x : Dictionary). x.kind) q;
   identity = ap (λ (x : Dictionary). x.identity) q;
   outputs = λ h. subst (λ (x : Dictionary). IsAssignment d.kind.outputs x.outs) (sym q) (assigned-stays d.kind.outputs d.outs b subindex number a h);
   inputs = λ h. subst (λ (x : Dictionary). IsAssignment d.kind.inputs x.ins) (sym q) h;
 }
-changed-keeps in_preop d e (Done p index subindex number (Inputs o i b q a)) = record {
+downloaded-keeps d e index subindex number (Inputs o i b q a) = record {
   kind = ap (λ (x : Dictionary). x.kind) q;
   identity = ap (λ (x : Dictionary). x.identity) q;
   outputs = λ h. subst (λ (x : Dictionary). IsAssignment d.kind.outputs x.outs) (sym q) h;
   inputs = λ h. subst (λ (x : Dictionary). IsAssignment d.kind.inputs x.ins) (sym q) (assigned-stays d.kind.inputs d.ins b subindex number a h);
 }
 
+-- a dictionary with other parameters at most
+beside-keeps : (d e : Dictionary) (values : List SdoValue) → e ≡ record d { values = values } → KeepsAssignments d e
+beside-keeps d e values q = record {
+  kind = ap (λ (x : Dictionary). x.kind) q;
+  identity = ap (λ (x : Dictionary). x.identity) q;
+  outputs = λ h. subst (λ (x : Dictionary). IsAssignment d.kind.outputs x.outs) (sym q) h;
+  inputs = λ h. subst (λ (x : Dictionary). IsAssignment d.kind.inputs x.ins) (sym q) h;
+}
+
+effect-keeps : (in_preop : Bool) (d e : Dictionary) (index subindex : ℕ) (v : SdoValue) → Effect in_preop d index subindex v e → KeepsAssignments d e
+effect-keeps in_preop d e index subindex v (Assigns p f b w) = downloaded-keeps d e index subindex v.number w
+effect-keeps in_preop d e index subindex v (Puts w) = beside-keeps d e (set d.values w.place v) w.is
+
+changed-keeps : (in_preop : Bool) (d e : Dictionary) → Changed in_preop d e → KeepsAssignments d e
+changed-keeps in_preop d e (Same q) = beside-keeps d e d.values q
+changed-keeps in_preop d e (Done index subindex v w) = effect-keeps in_preop d e index subindex v w
+
 pub assignments_kept : AnswersKeepAssignments
 assignments_kept in_preop d m counter = changed-keeps in_preop d _ (answered-changed in_preop d m counter)
 
-not-preop : (d e : Dictionary) → Changed false d e → e ≡ d
-not-preop d e (Same q) = q
-not-preop d e (Done p index subindex number w) = absurd (cc)
+-- outside PREOP parameters alone change
+put-alone : (d e : Dictionary) (values : List SdoValue) → e ≡ record d { values = values } → e ≡ record d { values = e.values }
+put-alone d e values q = q ∙ ap (λ (x : List SdoValue). record d { values = x }) (sym (ap (λ (x : Dictionary). x.values) q))
+
+effect-alone : (d e : Dictionary) (index subindex : ℕ) (v : SdoValue) → Effect false d index subindex v e → e ≡ record d { values = e.values }
+effect-alone d e index subindex v (Assigns p f b w) = absurd (cc)
+effect-alone d e index subindex v (Puts w) = put-alone d e (set d.values w.place v) w.is
+
+not-preop : (d e : Dictionary) → Changed false d e → e ≡ record d { values = e.values }
+not-preop d e (Same q) = put-alone d e d.values q
+not-preop d e (Done index subindex v w) = effect-alone d e index subindex v w
+
+-- and a type without downloads has none
+pub no-parameter : (kind : SlaveKind) (index subindex : ℕ) → kind.init ≡ [] → parameter_of kind index subindex ≡ None
+no-parameter kind index subindex e = elim (cases_Bool (is_assignment index || is_some kind.face)) [
+  | inl on ↦ if_true _ _ _ on
+  | inr off ↦ if_false _ _ _ off ∙ ap (λ (qs : List Parameter). parameter_at qs index subindex) e
+]
+
+effect-none : (d e : Dictionary) (index subindex : ℕ) (v : SdoValue) → d.kind.init ≡ [] → Effect false d index subindex v e → e ≡ d
+effect-none d e index subindex v i (Assigns p f b w) = absurd (cc)
+effect-none d e index subindex v i (Puts w) = let z : None ≡ Some w.place = sym (no-parameter d.kind index subindex i) ∙ w.there in absurd (cc)
+
+not-changed : (d e : Dictionary) → d.kind.init ≡ [] → Changed false d e → e ≡ d
+not-changed d e i (Same q) = q
+not-changed d e i (Done index subindex v w) = effect-none d e index subindex v i w
 
 pub preop_alone : ChangesInPreopAlone
-preop_alone d m counter = not-preop d _ (answered-changed false d m counter)
+preop_alone = record {
+  assignments = λ d m counter. not-preop d _ (answered-changed false d m counter);
+  plain = λ d m counter i. not-changed d _ i (answered-changed false d m counter);
+}

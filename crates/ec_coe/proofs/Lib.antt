@@ -22,3 +22,7 @@ pub mod Names
 pub mod RefusalBytes
 -- the bytes of a reply are those of a message, or, where the letters of a name follow it, read back as none
 pub mod ReplyLetters
+-- real devices and slaves like them
+pub mod Devices
+-- parameters that are reset
+pub mod Resetting

@@ -21,6 +21,7 @@ use Rattle.ec_coe.specs.Answers.{reply_to, has_long_name, normal_answer, upload_
 use Rattle.ec_coe.specs.ReplyBytes.{fitting_name, letters_behind, message_with, bytes_with, reply_bytes}
 use Rattle.ec_coe.specs.NameLaws.{UploadsAreExpedited, FacelessObjects, RepliesStandAlone, RepliesFit, HasName, AsksForName, NamesComeBack}
 use Rattle.ec_coe.proofs.ReadBack.{length-message}
+use Rattle.ec_coe.proofs.Devices.{upload-unlisted, parameter-full, own-full}
 
 -- ---- uploads
 
@@ -175,10 +176,10 @@ either-true true b e = refl
 either-true false b e = e
 
 name-uploaded : (d : Dictionary) (face : Face) (m : Message) → AsksForName d face m → (not (is_long face.name) || name_fits face.name (send_room d.kind.mailbox)) ≡ true → uploaded d m.index m.subindex ≡ Ok (name_value face.name)
-unfolding uploaded
 name-uploaded d face m h there =
-    ap (λ (o : Option (List SdoValue)). value_at o m.subindex) (name-object d face m h ∙ if_true _ _ _ there)
-    ∙ ap (value_at (Some (name_value face.name ∷ []))) h.subindex
+    upload-unlisted d m.index m.subindex (parameter-full d.kind face m.index m.subindex h.full)
+    ∙ (ap (λ (o : Option (List SdoValue)). value_at o m.subindex) (own-full d face m.index h.full ∙ (name-object d face m h ∙ if_true _ _ _ there))
+    ∙ ap (value_at (Some (name_value face.name ∷ []))) h.subindex)
 
 long-replied : (in_preop : Bool) (d : Dictionary) (face : Face) (m : Message) (counter : ℕ) → AsksForName d face m → max_expedited < length face.name → message_length + length face.name ≤ send_room d.kind.mailbox
     → (answered in_preop d m counter).reply ≡ reply_to m counter Response (OtherCommand normal_upload) (length face.name)

@@ -56,7 +56,7 @@ has-length : (m : Message) (rest : List ℕ) → (slice_index (message_bytes m +
 unfolding message_bytes
 has-length m rest = refl
 
-has-type : (m : Message) (rest : List ℕ) → (slice_index (message_bytes m ++ rest) 5 % 16 == 3) ≡ true
+pub has-type : (m : Message) (rest : List ℕ) → (slice_index (message_bytes m ++ rest) 5 % 16 == 3) ≡ true
 unfolding message_bytes
 has-type m rest = eq-eqb ((3 + 16 * m.counter) % 16) 3 (omega arith)
 

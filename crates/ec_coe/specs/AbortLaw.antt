@@ -1,7 +1,8 @@
 -- Each abort by its cause, as a relation between a dictionary and a request. The law says that the abort with which a slave
 -- replies is the first whose cause holds (the order is the profile of the simulated slaves).
-use Rattle.std.specs.Prelude.{ℕ, ◌<◌, ◌≤◌, ◌≡◌, ◌≢◌, ◌==◌, ◌⊎◌, List, length, take, Bool, false, if◌then◌else◌, slice_get, Some, None}
+use Rattle.std.specs.Prelude.{ℕ, ◌<◌, ◌≤◌, ◌≡◌, ◌≢◌, ◌==◌, ◌⊎◌, List, length, take, Bool, false, true, if◌then◌else◌, slice_get, Some, None, Ok}
 use Rattle.ec_device.specs.declared.slave_type.Pdo.{Pdo}
+use Rattle.ec_device.specs.Hardware.{is_fixed}
 use Rattle.ec_device.specs.Objects.{bits_assigned}
 use Rattle.ec_coe.specs.declared.value.ValueSize.{ValueSize}
 use Rattle.ec_coe.specs.declared.value.SdoValue.{SdoValue}
@@ -11,8 +12,8 @@ use Rattle.ec_coe.specs.declared.message.Message.{Message}
 use Rattle.ec_coe.specs.declared.abort_code.AbortCode.{AbortCode}
 use Rattle.ec_coe.specs.declared.abort_code.AbortCode.TheVariants.{InvalidCommand, ReadOnly, NoObject, WrongLength, NoSubindex, InvalidValue, WrongState}
 use Rattle.ec_coe.specs.Messages.{size_number}
-use Rattle.ec_coe.specs.Objects.{Assignment, Dictionary, output_assignment, input_assignment, object_values}
-use Rattle.ec_coe.specs.Transfers.{max_bits}
+use Rattle.ec_coe.specs.Objects.{Assignment, Dictionary, output_assignment, input_assignment, parameter_of, own_values}
+use Rattle.ec_coe.specs.Transfers.{max_bits, uploaded}
 use Rattle.ec_coe.specs.Answers.{abort_to, value_of, answered}
 
 -- the type's PDOs and the assignment of the direction that an assignment object has
@@ -35,35 +36,43 @@ pub record IsNoRequest (m : Message) : Type 0 where
 
 -- the slave has no object of the index
 pub record HasNoObject (d : Dictionary) (m : Message) : Type 0 where
-  pub none : object_values d m.index ≡ None
+  pub none : own_values d m.index ≡ None
+
+-- what it is for is no parameter of the slave
+abbrev pub IsNoParameter : Dictionary → Message → Type 0
+IsNoParameter d m = parameter_of d.kind m.index m.subindex ≡ None
 
 -- the object has no value at the subindex
 pub record HasNoSubindex (d : Dictionary) (m : Message) : Type 0 where
+  pub no_parameter : IsNoParameter d m
   pub values : List SdoValue
-  pub object : object_values d m.index ≡ Some values
+  pub object : own_values d m.index ≡ Some values
   pub past : length values ≤ m.subindex
 
--- a download to an object that assigns no PDOs
-pub record IsReadOnly (m : Message) : Type 0 where
+-- it is for an object that assigns PDOs
+abbrev pub IsToAssignment : Message → Type 0
+IsToAssignment m = (m.index ≡ output_assignment) ⊎ (m.index ≡ input_assignment)
+
+-- a download to an object that assigns no PDOs, or to one of a fixed assignment
+pub record IsReadOnly (d : Dictionary) (m : Message) : Type 0 where
   pub size : ValueSize
   pub download : Downloads m size
-  pub no_outputs : m.index ≢ output_assignment
-  pub no_inputs : m.index ≢ input_assignment
+  pub no_parameter : IsNoParameter d m
+  pub kept : (IsToAssignment m → ⊥) ⊎ (is_fixed d.kind.hardware ≡ true)
 
 -- a download of another length than that of the value that is there
 pub record HasWrongLength (d : Dictionary) (m : Message) : Type 0 where
   pub size : ValueSize
   pub download : Downloads m size
-  pub values : List SdoValue
-  pub object : object_values d m.index ≡ Some values
   pub value : SdoValue
-  pub there : slice_get values m.subindex ≡ Some value
+  pub there : uploaded d m.index m.subindex ≡ Ok value
   pub unlike : size_number size ≢ size_number value.size
 
--- a download in another state than PREOP, or to a slot while the count isn't 0
+-- a download to an assignment in another state than PREOP, or to a slot while the count isn't 0
 pub record IsWrongState (in_preop : Bool) (d : Dictionary) (m : Message) : Type 0 where
   pub size : ValueSize
   pub download : Downloads m size
+  pub no_parameter : IsNoParameter d m
   pub closed : (in_preop ≡ false) ⊎ ((0 < m.subindex) × (0 < (assignment_at d m.index).count))
 
 -- a number stands twice in a list
@@ -85,10 +94,11 @@ pub data IsBadCount (ps : List Pdo) (a : Assignment) (count : ℕ) : Type 0 wher
 pub record IsBadIndex (ps : List Pdo) (index : ℕ) : Type 0 where
   pub none : (k : ℕ) (p : Pdo) → slice_get ps k ≡ Some p → p.index ≢ index
 
--- a download of a value that the object doesn't take
+-- a download of a value that the assignment doesn't take
 pub record HasInvalidValue (d : Dictionary) (m : Message) : Type 0 where
   pub size : ValueSize
   pub download : Downloads m size
+  pub no_parameter : IsNoParameter d m
   pub count : m.subindex ≡ 0 → IsBadCount (pdos_at d m.index) (assignment_at d m.index) (value_of size m.value).number
   pub slot : m.subindex ≢ 0 → IsBadIndex (pdos_at d m.index) (value_of size m.value).number
 
@@ -96,7 +106,7 @@ abbrev pub Causes : Bool → Dictionary → Message → AbortCode → Type 0
 Causes in_preop d m InvalidCommand = IsNoRequest m
 Causes in_preop d m NoObject = HasNoObject d m
 Causes in_preop d m NoSubindex = HasNoSubindex d m
-Causes in_preop d m ReadOnly = IsReadOnly m
+Causes in_preop d m ReadOnly = IsReadOnly d m
 Causes in_preop d m WrongLength = HasWrongLength d m
 Causes in_preop d m WrongState = IsWrongState in_preop d m
 Causes in_preop d m InvalidValue = HasInvalidValue d m

@@ -1,5 +1,5 @@
 -- The reply of a slave to an SDO request (ETG.1000.6, "SDO services", expedited transfer; "Upload SDO normal response").
-use Rattle.std.specs.Prelude.{ℕ, ◌*◌, ◌%◌, ◌^◌, ◌==◌, ◌&&◌, Bool, false, if◌then◌else◌, Option, Some, None, Result, Ok, Err}
+use Rattle.std.specs.Prelude.{ℕ, ◌==◌, ◌&&◌, Bool, false, if◌then◌else◌, Option, Some, None, Result, Ok, Err}
 use Rattle.ec_device.specs.declared.slave_type.Face.{Face}
 use Rattle.ec_coe.specs.declared.value.ValueSize.{ValueSize}
 use Rattle.ec_coe.specs.declared.value.SdoValue.{SdoValue}
@@ -10,8 +10,9 @@ use Rattle.ec_coe.specs.declared.message.SdoCommand.TheVariants.{DownloadRequest
 use Rattle.ec_coe.specs.declared.message.Message.{Message}
 use Rattle.ec_coe.specs.declared.abort_code.AbortCode.{AbortCode}
 use Rattle.ec_coe.specs.declared.abort_code.AbortCode.TheVariants.{InvalidCommand}
-use Rattle.ec_coe.specs.Messages.{size_number, normal_upload}
+use Rattle.ec_coe.specs.Messages.{normal_upload}
 use Rattle.ec_coe.specs.Objects.{Dictionary, device_name_object, is_long}
+pub use Rattle.ec_coe.specs.Objects.{value_of}
 use Rattle.ec_coe.specs.Transfers.{abort_number, uploaded, downloaded}
 
 -- a reply, and the dictionary after it
@@ -48,10 +49,6 @@ upload_reply face m counter outcome = if (m.index == device_name_object) && has_
 abbrev pub download_answer : Dictionary → Message → ℕ → Result Dictionary AbortCode → Answer
 download_answer d m counter (Ok after) = record { reply = reply_to m counter Response DownloadResponse 0; dictionary = after }
 download_answer d m counter (Err code) = record { reply = abort_to m counter code; dictionary = d }
-
--- as many of the four bytes of data as the command says
-abbrev pub value_of : ValueSize → ℕ → SdoValue
-value_of size data_bytes = record { size = size; number = data_bytes % 2 ^ (8 * size_number size) }
 
 abbrev pub invalid_answer : Dictionary → Message → ℕ → Answer
 invalid_answer d m counter = record { reply = abort_to m counter InvalidCommand; dictionary = d }

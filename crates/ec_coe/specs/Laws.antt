@@ -1,5 +1,5 @@
 -- Laws of the definitions of this crate.
-use Rattle.std.specs.Prelude.{ℕ, ◌≡◌, ◌<◌, ◌≤◌, List, ◌++◌, length, Bool, true, false, Some, is_some, slice_index}
+use Rattle.std.specs.Prelude.{ℕ, ◌≡◌, ◌<◌, ◌≤◌, List, [], ◌++◌, length, Bool, true, false, Some, is_some, slice_index}
 use Rattle.ec_coe.specs.declared.message.Message.{Message}
 use Rattle.ec_device.specs.declared.slave_type.Pdo.{Pdo}
 use Rattle.ec_device.specs.Objects.{pdo_at, bits_assigned}
@@ -12,9 +12,11 @@ use Rattle.ec_coe.specs.Answers.{answered}
 abbrev pub ReadsBack : Type 0
 ReadsBack = (m : Message) (rest : List ℕ) → IsMessage m → message_read (message_bytes m ++ rest) ≡ Some m
 
--- An answer changes an assignment only in PREOP.
-abbrev pub ChangesInPreopAlone : Type 0
-ChangesInPreopAlone = (d : Dictionary) (m : Message) (counter : ℕ) → (answered false d m counter).dictionary ≡ d
+-- An answer changes an assignment only in PREOP. In any other state it changes parameters alone; so it changes nothing of a type
+-- without any.
+pub record ChangesInPreopAlone : Type 0 where
+  pub assignments : (d : Dictionary) (m : Message) (counter : ℕ) → (answered false d m counter).dictionary ≡ record d { values = (answered false d m counter).dictionary.values }
+  pub plain : (d : Dictionary) (m : Message) (counter : ℕ) → d.kind.init ≡ [] → (answered false d m counter).dictionary ≡ d
 
 -- what an assignment is, once it was made by a master: PDOs of the direction, none of them twice, with few enough bits
 pub record IsAssignment (ps : List Pdo) (a : Assignment) : Type 0 where

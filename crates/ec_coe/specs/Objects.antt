@@ -1,19 +1,23 @@
 -- The object dictionary of a slave (ETG.1000.6, "Object dictionary"): its identity (0x1018), its PDOs (0x1600 to 0x17FF,
 -- 0x1A00 to 0x1BFF), and which of them are assigned (0x1C12 and 0x1C13, "Sync manager PDO assignment"). A full slave, whose
--- type has a face, has some more objects behind these, which usual masters read.
-use Rattle.std.specs.Prelude.{ℕ, ◌+◌, ◌*◌, ◌==◌, ◌≡◌, ◌||◌, not, List, [], ◌∷◌, ◌++◌, length, map, take, Bool, true, false, if◌then◌else◌, nat_lt, nat_le, slice_index, Option, Some, None, option_map}
+-- type has a face, has some more objects behind these, which usual masters read. A slave whose type has downloads of its own (`init`
+-- of a link table) has the objects that these name.
+use Rattle.std.specs.Prelude.{ℕ, ◌+◌, ◌*◌, ◌%◌, ◌^◌, ◌==◌, ◌≡◌, ◌&&◌, ◌||◌, not, List, [], ◌∷◌, ◌++◌, length, map, take, Bool, true, false, if◌then◌else◌, nat_lt, nat_le, slice_index, Option, Some, None, is_some, option_map}
+use Rattle.std.specs.List.{list_any}
 use Rattle.std.specs.Option.{option_or}
 use Rattle.ec_device.specs.declared.slave_type.Entry.{Entry}
 use Rattle.ec_device.specs.declared.slave_type.Pdo.{Pdo}
 use Rattle.ec_device.specs.declared.slave_type.Identity.{Identity}
 use Rattle.ec_device.specs.declared.slave_type.Mailbox.{Mailbox}
 use Rattle.ec_device.specs.declared.slave_type.Face.{Face}
+use Rattle.ec_device.specs.declared.parameter.Parameter.{Parameter}
 use Rattle.ec_device.specs.Types.{SlaveKind}
 use Rattle.ec_device.specs.Objects.{pdo_at}
+use Rattle.ec_device.specs.Parameters.{parameter_at}
 use Rattle.ec_coe.specs.declared.value.ValueSize.{ValueSize}
 use Rattle.ec_coe.specs.declared.value.ValueSize.TheVariants.{One, Two, Three, Four}
 use Rattle.ec_coe.specs.declared.value.SdoValue.{SdoValue}
-use Rattle.ec_coe.specs.Messages.{message_length}
+use Rattle.ec_coe.specs.Messages.{message_length, size_number}
 
 -- the slots of an assignment object, and how many of them count
 pub record Assignment : Type 0 where
@@ -26,11 +30,14 @@ pub record Dictionary : Type 0 where
   -- the outputs, 0x1C12, and the inputs, 0x1C13
   pub outs : Assignment
   pub ins : Assignment
+  -- the values of the parameters: one for each download of the type's `init`; the first to an object has the object's
+  pub values : List SdoValue
 
--- each direction has as many slots as the type has PDOs of it
-pub record HasSlots (kind : SlaveKind) (outs ins : Assignment) : Type 0 where
+-- each direction has as many slots as the type has PDOs of it, and there are as many values as downloads
+pub record HasSlots (kind : SlaveKind) (outs ins : Assignment) (values : List SdoValue) : Type 0 where
   pub outputs : length outs.slots ≡ length kind.outputs
   pub inputs : length ins.slots ≡ length kind.inputs
+  pub parameters : length values ≡ length kind.init
 
 -- the indices of the PDOs that are assigned
 abbrev pub assigned : Assignment → List ℕ
@@ -42,9 +49,6 @@ indices ps = map (λ p. p.index) ps
 -- every PDO of a direction, in order, as the power comes on
 abbrev pub all_assigned : List Pdo → Assignment
 all_assigned ps = record { slots = indices ps; count = length ps }
-
-abbrev pub new_dictionary : SlaveKind → Identity → Dictionary
-new_dictionary kind identity = record { kind = kind; identity = identity; outs = all_assigned kind.outputs; ins = all_assigned kind.inputs }
 
 -- ---- the objects
 
@@ -65,6 +69,10 @@ word_value n = record { size = Two; number = n }
 
 abbrev pub long_value : ℕ → SdoValue
 long_value n = record { size = Four; number = n }
+
+-- as many of four bytes of data as the size says
+abbrev pub value_of : ValueSize → ℕ → SdoValue
+value_of size data_bytes = record { size = size; number = data_bytes % 2 ^ (8 * size_number size) }
 
 -- subindex 0: how many; 1 to 4: vendor, product, revision, serial number
 abbrev pub identity_values : Identity → List SdoValue
@@ -162,11 +170,34 @@ face_values_of (Some face) room index = face_values face room index
 
 -- ---- all of them
 
--- The values of the object with an index, by subindex, if there is one. There is an assignment object if the type has
--- PDOs of its direction.
+-- The values of the object with an index, by subindex, parameters aside, if there is one. There is an assignment object if the type
+-- has PDOs of its direction.
 unfoldable pub object_values : Dictionary → ℕ → Option (List SdoValue)
 object_values d index =
     if index == identity_object then Some (identity_values d.identity)
     else (if index == output_assignment then (if has_some d.kind.outputs then Some (assignment_values d.outs) else None)
     else (if index == input_assignment then (if has_some d.kind.inputs then Some (assignment_values d.ins) else None)
     else option_or (option_map pdo_values (pdo_at (d.kind.outputs ++ d.kind.inputs) index)) (face_values_of d.kind.face (send_room d.kind.mailbox) index)))
+
+-- ---- parameters
+
+-- the objects that assign PDOs
+abbrev pub is_assignment : ℕ → Bool
+is_assignment index = (index == output_assignment) || (index == input_assignment)
+
+-- Each object that the type's `init` downloads to is in the dictionary, and keeps what is downloaded to it: the place of its value.
+-- Those that assign PDOs stay what they are; and a full slave has no parameters, as no table gives it any.
+abbrev pub parameter_of : SlaveKind → (index subindex : ℕ) → Option ℕ
+parameter_of kind index subindex = if is_assignment index || is_some kind.face then None else parameter_at kind.init index subindex
+
+-- some parameter is a value of the object with this index
+abbrev pub has_parameters : SlaveKind → ℕ → Bool
+has_parameters kind index = not (is_assignment index || is_some kind.face) && list_any (λ (q : Parameter). q.index == index) kind.init
+
+abbrev pub no_values_if : Bool → Option (List SdoValue)
+no_values_if true = Some []
+no_values_if false = None
+
+-- the values of an object beside its parameters; an object that is there for its parameters alone has none
+abbrev pub own_values : Dictionary → ℕ → Option (List SdoValue)
+own_values d index = option_or (object_values d index) (no_values_if (has_parameters d.kind index))

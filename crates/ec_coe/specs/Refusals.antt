@@ -24,9 +24,12 @@ service_in raw = slice_index raw 7 / 16
 abbrev pub coe_type : ℕ
 coe_type = 3
 
--- the services of the CoE header that have answers of their own
+-- services of the CoE header
 abbrev pub sdo_request : ℕ
 sdo_request = 2
+
+abbrev pub sdo_response : ℕ
+sdo_response = 3
 
 abbrev pub sdo_information : ℕ
 sdo_information = 8

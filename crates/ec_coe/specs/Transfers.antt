@@ -1,14 +1,15 @@
 -- Uploads from and downloads to the object dictionary (ETG.1000.6, "SDO services", expedited transfer; "Abort SDO transfer",
 -- the table of abort codes; which of several aborts comes is the profile of the simulated slaves).
-use Rattle.std.specs.Prelude.{ℕ, ◌-◌, ◌==◌, ◌&&◌, ◌||◌, not, List, [], ◌∷◌, length, take, Bool, true, if◌then◌else◌, nat_le, slice_get, slice_set, Option, Some, None, is_some, Result, Ok, Err}
+use Rattle.std.specs.Prelude.{ℕ, ◌-◌, ◌==◌, ◌&&◌, ◌||◌, not, List, [], ◌∷◌, length, take, Bool, true, if◌then◌else◌, nat_le, slice_get, slice_set, Option, Some, None, is_some, unwrap_or, Result, Ok, Err}
 use Rattle.std.specs.List.{list_any}
 use Rattle.ec_device.specs.declared.slave_type.Pdo.{Pdo}
+use Rattle.ec_device.specs.Hardware.{is_fixed}
 use Rattle.ec_device.specs.Objects.{pdo_at, bits_assigned}
 use Rattle.ec_coe.specs.Messages.{size_number}
 use Rattle.ec_coe.specs.declared.value.SdoValue.{SdoValue}
 use Rattle.ec_coe.specs.declared.abort_code.AbortCode.{AbortCode}
 use Rattle.ec_coe.specs.declared.abort_code.AbortCode.TheVariants.{InvalidCommand, ReadOnly, NoObject, WrongLength, NoSubindex, InvalidValue, WrongState}
-use Rattle.ec_coe.specs.Objects.{Assignment, Dictionary, output_assignment, object_values, input_assignment}
+use Rattle.ec_coe.specs.Objects.{Assignment, Dictionary, byte_value, output_assignment, is_assignment, parameter_of, own_values}
 
 -- the numbers of the abort codes
 abbrev pub abort_number : AbortCode → ℕ
@@ -30,9 +31,17 @@ abbrev pub value_at : Option (List SdoValue) → ℕ → Result SdoValue AbortCo
 value_at None subindex = Err NoObject
 value_at (Some values) subindex = value_or_abort (slice_get values subindex)
 
--- the value at an index and a subindex: no object, no subindex, or it
+-- the value of a parameter, by its place
+abbrev pub kept_value : List SdoValue → ℕ → SdoValue
+kept_value values place = unwrap_or (slice_get values place) (byte_value 0)
+
+abbrev pub uploaded_by : Dictionary → ℕ → ℕ → Option ℕ → Result SdoValue AbortCode
+uploaded_by d index subindex None = value_at (own_values d index) subindex
+uploaded_by d index subindex (Some place) = Ok (kept_value d.values place)
+
+-- the value at an index and a subindex, a parameter's as it was downloaded last: no object, no subindex, or it
 unfoldable pub uploaded : Dictionary → ℕ → ℕ → Result SdoValue AbortCode
-uploaded d index subindex = value_at (object_values d index) subindex
+uploaded d index subindex = uploaded_by d index subindex (parameter_of d.kind index subindex)
 
 -- ---- download
 
@@ -82,21 +91,28 @@ abbrev pub with_ins : Dictionary → Result Assignment AbortCode → Result Dict
 with_ins d (Ok a) = Ok (record d { ins = a })
 with_ins d (Err code) = Err code
 
--- the objects that take downloads
-abbrev pub is_assignment : ℕ → Bool
-is_assignment index = (index == output_assignment) || (index == input_assignment)
+-- a parameter takes each value of its length
+abbrev pub parameter_written : Dictionary → SdoValue → ℕ → Result Dictionary AbortCode
+parameter_written d value place =
+    if size_number value.size == size_number (kept_value d.values place).size then Ok (record d { values = slice_set d.values place value }) else Err WrongLength
 
--- the value that is there is replaced, if it takes downloads and has the length
-abbrev pub written_over : Bool → Dictionary → ℕ → ℕ → SdoValue → Result SdoValue AbortCode → Result Dictionary AbortCode
-written_over in_preop d index subindex value (Err code) = Err code
-written_over in_preop d index subindex value (Ok old) =
-    if not (is_assignment index) then Err ReadOnly
+-- Any other value that is there is replaced, if it takes downloads and has the length. Those that assign PDOs take them, if the
+-- device lets its assignment be written.
+abbrev pub object_written : Bool → Dictionary → ℕ → ℕ → SdoValue → Result SdoValue AbortCode → Result Dictionary AbortCode
+object_written in_preop d index subindex value (Err code) = Err code
+object_written in_preop d index subindex value (Ok old) =
+    if not (is_assignment index) || is_fixed d.kind.hardware then Err ReadOnly
     else (if not (size_number value.size == size_number old.size) then Err WrongLength
     else (if index == output_assignment
     then with_outs d (assignment_written in_preop d.kind.outputs d.outs subindex value.number)
     else with_ins d (assignment_written in_preop d.kind.inputs d.ins subindex value.number)))
 
+abbrev pub written_by : Bool → Dictionary → ℕ → ℕ → SdoValue → Option ℕ → Result Dictionary AbortCode
+written_by in_preop d index subindex value None = object_written in_preop d index subindex value (value_at (own_values d index) subindex)
+written_by in_preop d index subindex value (Some place) = parameter_written d value place
+
 -- The dictionary after a download, or the first abort that fits: no object, no subindex, read-only, another length, another
--- state than PREOP or an index while the count isn't 0, a value that isn't taken.
+-- state than PREOP or an index while the count isn't 0, a value that isn't taken. A parameter takes each value of its length, in
+-- each state.
 unfoldable pub downloaded : Bool → Dictionary → ℕ → ℕ → SdoValue → Result Dictionary AbortCode
-downloaded in_preop d index subindex value = written_over in_preop d index subindex value (uploaded d index subindex)
+downloaded in_preop d index subindex value = written_by in_preop d index subindex value (parameter_of d.kind index subindex)

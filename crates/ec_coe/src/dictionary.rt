@@ -1,12 +1,14 @@
 //! A slave's object dictionary.
 
-ghost use Rattle.std.specs.Prelude.{◌≡◌, ◌++◌, ◌≤◌, ◌<◌, ◌^◌, ◌*◌, ◌+◌, length, slice_get, if◌then◌else◌, IfOk, IfSome, MatchResult, Ok, Err};
+ghost use Rattle.std.specs.Prelude.{◌≡◌, ◌==◌, ◌++◌, ◌≤◌, ◌<◌, ◌^◌, ◌*◌, ◌+◌, length, map, slice_get, if◌then◌else◌, IfOk, IfSome, MatchResult, Ok, Err, Some};
+ghost use Rattle.std.specs.List.{list_any};
 ghost use Rattle.std.specs.Option.{option_copied};
 ghost use Rattle.ec_coe.specs.declared.message.SdoCommand.TheVariants.{UploadResponse, Other as OtherCommand};
 ghost use Rattle.ec_device.specs.Objects.{pdo_at, bits_assigned};
-ghost use Rattle.ec_coe.specs.Objects.{HasSlots, new_dictionary, assigned, entry_number as number_of_entry, identity_values, pdo_values, send_room, face_values_of};
+ghost use Rattle.ec_coe.specs.Objects.{HasSlots, assigned, entry_number as number_of_entry, identity_values, pdo_values, send_room, face_values_of, object_values, own_values, parameter_of, has_parameters as has_parameters_of, is_assignment as assigns};
+ghost use Rattle.ec_coe.specs.SwitchedOn.{new_dictionary, first_value as first_value_of};
 ghost use Rattle.ec_coe.specs.Messages.{size_number, normal_upload, IsMessage};
-ghost use Rattle.ec_coe.specs.Transfers.{value_or_abort, value_at, uploaded, downloaded};
+ghost use Rattle.ec_coe.specs.Transfers.{value_or_abort, value_at, uploaded, parameter_written, object_written, downloaded};
 ghost use Rattle.ec_coe.specs.Answers.{answered, has_long_name};
 
 use crate::abort_code::AbortCode;
@@ -14,7 +16,7 @@ use crate::assignment::{Assignment, find_pdo};
 use crate::face::{DEVICE_NAME_OBJECT, face_value, is_long};
 use crate::message::{Message, NORMAL_UPLOAD, SdoCommand, Service};
 use crate::value::{SdoValue, ValueSize};
-use ec_device::{Entry, Identity, Pdo, SlaveType};
+use ec_device::{Entry, Identity, Parameter, Pdo, SlaveType, parameter_at};
 use std::alloc::{AllocError, Global};
 use std::marker::Model;
 
@@ -29,13 +31,15 @@ pub const INPUT_ASSIGNMENT: u16 = 0x1C13;
 
 /// The objects of a slave (ETG.1000.6, "Object dictionary"): its identity, the PDOs of its type, and which of them are
 /// assigned. A full slave, whose type has a face, also has the device type, the device name, the versions and the uses of its
-/// sync managers. It owns all of these.
+/// sync managers. Any other has the objects that the downloads of its type name, its parameters. It owns all of these.
 #[derive(Debug, Drop)]
 pub struct Dictionary {
     kind: SlaveType,
     identity: Identity,
     outs: Assignment,
     ins: Assignment,
+    // one for each download of the type; the first to an object has the object's
+    values: Vec<SdoValue>,
 }
 
 impl Model for Dictionary {
@@ -43,9 +47,9 @@ impl Model for Dictionary {
 
     ghost Value = { Objects };
 
-    ghost view = { λ d. record { kind = d.kind; identity = d.identity; outs = d.outs; ins = d.ins } };
+    ghost view = { λ d. record { kind = d.kind; identity = d.identity; outs = d.outs; ins = d.ins; values = d.values.items } };
 
-    ghost invariant = { λ d. HasSlots d.kind d.outs d.ins };
+    ghost invariant = { λ d. HasSlots d.kind d.outs d.ins d.values.items };
 }
 
 /// The number of an entry in a mapping object: its index, its subindex and its bits, from the high bytes down (ETG.1000.6,
@@ -57,8 +61,8 @@ pub fn entry_number(entry: &Entry) -> u32
 }
 
 impl Dictionary {
-    /// The objects of a slave of a type that was just switched on: every PDO is assigned, in order. No later call takes
-    /// memory.
+    /// The objects of a slave of a type that was just switched on: every PDO is assigned, in order, and each parameter has the
+    /// value that its object has without one, or 0. No later call takes memory.
     ///
     /// # Errors
     ///
@@ -68,18 +72,22 @@ impl Dictionary {
     {
         let outs = Assignment::new(alloc, kind.outputs())?;
         let ins = Assignment::new(alloc, kind.inputs())?;
-        Ok(Dictionary {
+        let values = vec![in alloc; SdoValue::byte(0); kind.init().len()]?;
+        let mut dictionary = Dictionary {
             kind,
             identity,
             outs,
             ins,
-        })
+            values,
+        };
+        dictionary.reset_values();
+        Ok(dictionary)
     }
 
-    /// Does nothing. Its contract says that every dictionary has as many slots as the type has PDOs, and that no more of them
-    /// count than there are.
+    /// Does nothing. Its contract says that every dictionary has as many slots as the type has PDOs, and as many values as
+    /// downloads, and that no more slots count than there are.
     pub fn is_sound(&self)
-        ensures slots { HasSlots self.now.kind self.now.outs self.now.ins }
+        ensures slots { HasSlots self.now.kind self.now.outs self.now.ins self.now.values }
         ensures outputs { self.now.outs.count ≤ length self.now.outs.slots }
         ensures inputs { self.now.ins.count ≤ length self.now.ins.slots }
     {
@@ -136,26 +144,19 @@ impl Dictionary {
     /// # Errors
     ///
     /// `NoObject` if the index has no object, `NoSubindex` if the object has no such subindex.
-    #[tactic(auto, unfolding(crate::specs::Transfers::uploaded, crate::specs::Objects::object_values))]
+    #[tactic(auto, unfolding(crate::specs::Transfers::uploaded))]
     pub fn upload(&self, index: u16, subindex: u8) -> Result<SdoValue, AbortCode>
         ensures { result ≡ uploaded self.now index subindex }
     {
-        match index {
-            IDENTITY_OBJECT => found(identity_value(&self.identity, subindex)),
-            OUTPUT_ASSIGNMENT if self.kind.outputs().is_empty() => Err(AbortCode::NoObject),
-            OUTPUT_ASSIGNMENT => found(self.outs.value(subindex)),
-            INPUT_ASSIGNMENT if self.kind.inputs().is_empty() => Err(AbortCode::NoObject),
-            INPUT_ASSIGNMENT => found(self.ins.value(subindex)),
-            _ => match self.pdo(index) {
-                Some(pdo) => found(pdo_value(pdo, subindex)),
-                None => self.value_of_face(index, subindex),
-            },
+        match self.parameter(index, subindex) {
+            Some(place) => Ok(self.values[place]),
+            None => self.own_value(index, subindex),
         }
     }
 
-    /// A download to an index and a subindex. Only the objects that assign PDOs take one, and only in PREOP: a count of
-    /// slots, and while that is 0 the slots. The value must have no more bits than its size says, as each has
-    /// that `SdoValue::of`, `byte`, `word` or `long` makes.
+    /// A download to an index and a subindex. The objects that assign PDOs take one, if the type's assignment isn't fixed, and
+    /// only in PREOP: a count of slots, and while that is 0 the slots. Parameters take any of their length, in any state. The
+    /// value must have no more bits than its size says, as each has that `SdoValue::of`, `byte`, `word` or `long` makes.
     ///
     /// # Errors
     ///
@@ -174,19 +175,9 @@ impl Dictionary {
             (λ _. downloaded in_preop self.old index subindex value ≡ Ok self.new)
             (λ code. (downloaded in_preop self.old index subindex value ≡ Err code) × (self.new ≡ self.old)) }
     {
-        let old = self.upload(index, subindex)?;
-        let is_as_long = value.size.number() == old.size.number();
-        match index {
-            OUTPUT_ASSIGNMENT | INPUT_ASSIGNMENT if !is_as_long => Err(AbortCode::WrongLength),
-            OUTPUT_ASSIGNMENT => {
-                let outputs = self.kind.outputs();
-                self.outs.write(outputs, in_preop, subindex, value.number)
-            }
-            INPUT_ASSIGNMENT => {
-                let inputs = self.kind.inputs();
-                self.ins.write(inputs, in_preop, subindex, value.number)
-            }
-            _ => Err(AbortCode::ReadOnly),
+        match self.parameter(index, subindex) {
+            Some(place) => self.set_parameter(place, value),
+            None => self.set_object(in_preop, index, subindex, value),
         }
     }
 
@@ -231,12 +222,143 @@ impl Dictionary {
         }
     }
 
-    /// Puts the assignments back to power-on: every PDO is assigned, in order.
+    /// Puts assignments and parameters back to power-on: every PDO is assigned, in order, and each parameter has the value that
+    /// its object has without one, or 0.
     pub fn reset(&mut self)
         ensures { self.new ≡ new_dictionary self.old.kind self.old.identity }
     {
         self.outs.reset(self.kind.outputs());
         self.ins.reset(self.kind.inputs());
+        self.reset_values();
+    }
+
+    /// Each parameter gets the value that its object has without one, or 0.
+    fn reset_values(&mut self)
+        ensures { self.new ≡ record self.old { values = map (first_value_of self.old) self.old.kind.init } }
+    {
+        for place in 0..self.values.len() {
+            let value = self.first_value(place);
+            self.values[place] = value;
+        }
+    }
+
+    /// The value that the object of the parameter at a place has without it, in as many bytes as the parameter has; or 0.
+    fn first_value(&self, place: usize) -> SdoValue
+        requires { place < length self.now.values }
+        ensures { slice_get (map (first_value_of self.now) self.now.kind.init) place ≡ Some result }
+    {
+        let parameter = self.kind.init()[place];
+        let number = match self.own_value(parameter.index, parameter.subindex) {
+            Ok(value) => value.number,
+            Err(_) => 0,
+        };
+        SdoValue::of(ValueSize::of(parameter.size), number)
+    }
+
+    /// The place of the parameter at an index and a subindex; none if there is no parameter.
+    fn parameter(&self, index: u16, subindex: u8) -> Option<usize>
+        ensures place { result ≡ parameter_of self.now.kind index subindex }
+        ensures within { IfSome result (λ place. place < length self.now.values) }
+    {
+        if is_assignment(index) || self.kind.face().is_some() {
+            return None;
+        }
+        parameter_at(self.kind.init(), index, subindex)
+    }
+
+    /// Whether some parameter is a value of the object with this index.
+    fn has_parameters(&self, index: u16) -> bool
+        ensures { result ≡ has_parameters_of self.now.kind index }
+    {
+        !(is_assignment(index) || self.kind.face().is_some()) && names(self.kind.init(), index)
+    }
+
+    /// The value at an index and a subindex that isn't a parameter.
+    ///
+    /// # Errors
+    ///
+    /// As those of `upload`.
+    fn own_value(&self, index: u16, subindex: u8) -> Result<SdoValue, AbortCode>
+        ensures { result ≡ value_at (own_values self.now index) subindex }
+    {
+        match self.object_value(index, subindex) {
+            Err(AbortCode::NoObject) if self.has_parameters(index) => Err(AbortCode::NoSubindex),
+            value => value,
+        }
+    }
+
+    /// The value at an index and a subindex, as in a dictionary without parameters.
+    ///
+    /// # Errors
+    ///
+    /// As those of `upload`.
+    #[tactic(auto, unfolding(crate::specs::Objects::object_values))]
+    fn object_value(&self, index: u16, subindex: u8) -> Result<SdoValue, AbortCode>
+        ensures { result ≡ value_at (object_values self.now index) subindex }
+    {
+        match index {
+            IDENTITY_OBJECT => found(identity_value(&self.identity, subindex)),
+            OUTPUT_ASSIGNMENT if self.kind.outputs().is_empty() => Err(AbortCode::NoObject),
+            OUTPUT_ASSIGNMENT => found(self.outs.value(subindex)),
+            INPUT_ASSIGNMENT if self.kind.inputs().is_empty() => Err(AbortCode::NoObject),
+            INPUT_ASSIGNMENT => found(self.ins.value(subindex)),
+            _ => match self.pdo(index) {
+                Some(pdo) => found(pdo_value(pdo, subindex)),
+                None => self.value_of_face(index, subindex),
+            },
+        }
+    }
+
+    /// A download to the parameter at a place.
+    ///
+    /// # Errors
+    ///
+    /// `WrongLength` if the value has another length than the parameter's. Nothing changes then.
+    fn set_parameter(&mut self, place: usize, value: SdoValue) -> Result<(), AbortCode>
+        requires { place < length self.old.values }
+        ensures { MatchResult result
+            (λ _. parameter_written self.old value place ≡ Ok self.new)
+            (λ code. (parameter_written self.old value place ≡ Err code) × (self.new ≡ self.old)) }
+    {
+        if value.size.number() != self.values[place].size.number() {
+            return Err(AbortCode::WrongLength);
+        }
+        self.values[place] = value;
+        Ok(())
+    }
+
+    /// A download to an index and a subindex that isn't a parameter.
+    ///
+    /// # Errors
+    ///
+    /// As those of `download`.
+    fn set_object(
+        &mut self,
+        in_preop: bool,
+        index: u16,
+        subindex: u8,
+        value: SdoValue,
+    ) -> Result<(), AbortCode>
+        requires { value.number < 2 ^ (8 * size_number value.size) }
+        ensures { MatchResult result
+            (λ _. object_written in_preop self.old index subindex value (value_at (own_values self.old index) subindex) ≡ Ok self.new)
+            (λ code. (object_written in_preop self.old index subindex value (value_at (own_values self.old index) subindex) ≡ Err code) × (self.new ≡ self.old)) }
+    {
+        let old = self.own_value(index, subindex)?;
+        let is_as_long = value.size.number() == old.size.number();
+        if !is_assignment(index) || self.kind.is_fixed() {
+            return Err(AbortCode::ReadOnly);
+        }
+        if !is_as_long {
+            return Err(AbortCode::WrongLength);
+        }
+        if index == OUTPUT_ASSIGNMENT {
+            let outputs = self.kind.outputs();
+            self.outs.write(outputs, in_preop, subindex, value.number)
+        } else {
+            let inputs = self.kind.inputs();
+            self.ins.write(inputs, in_preop, subindex, value.number)
+        }
     }
 
     /// The mapping object of a PDO of the type.
@@ -283,6 +405,20 @@ impl Dictionary {
             None => 0,
         }
     }
+}
+
+/// Whether some parameter is a value of the object with this index.
+fn names(parameters: &[Parameter], index: u16) -> bool
+    ensures { result ≡ list_any (λ (q : Parameter). q.index == index) parameters.now }
+{
+    parameters.iter().any(|parameter| parameter.index == index)
+}
+
+/// Whether an object assigns PDOs.
+fn is_assignment(index: u16) -> bool
+    ensures { result ≡ assigns index }
+{
+    index == OUTPUT_ASSIGNMENT || index == INPUT_ASSIGNMENT
 }
 
 /// The command of the response to an upload, by a normal or by an expedited transfer.

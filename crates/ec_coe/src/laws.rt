@@ -1,6 +1,7 @@
 //! Laws of the definitions. Each function does nothing: its contract is the law.
 
 ghost use Rattle.ec_coe.specs.AbortLaw.{FirstAbort};
+ghost use Rattle.ec_coe.specs.DeviceLaws.{AreSetAside, FirstValuesHaveSizes, FixedAssignmentsStay, ParametersAreKept, PlainDictionaries, SizedRepliesAreReplies, SizesStay};
 ghost use Rattle.ec_coe.specs.Laws.{AnswersKeepAssignments, ChangesInPreopAlone, ReadsBack};
 ghost use Rattle.ec_coe.specs.NameLaws.{FacelessObjects, NamesComeBack, RepliesFit, RepliesReadAlone, RepliesStandAlone, UploadsAreExpedited};
 ghost use Rattle.ec_coe.specs.RefusalLaws.{RefusalsFit, RefusalsRead};
@@ -11,7 +12,7 @@ pub fn messages_read_back()
     ensures { ReadsBack }
 {}
 
-/// An answer changes an assignment only in PREOP.
+/// An answer changes an assignment only in PREOP, and in any other state parameters alone.
 #[tactic(auto, using(crate::proofs::AssignmentsStay::preop_alone))]
 pub fn assignments_change_in_preop()
     ensures { ChangesInPreopAlone }
@@ -79,4 +80,47 @@ pub fn refusals_fit()
 #[tactic(auto, using(crate::proofs::RefusalBytes::refusals_read))]
 pub fn refusals_read()
     ensures { RefusalsRead }
+{}
+
+/// Emergencies are set aside, and no reply of a slave is.
+#[tactic(auto, using(crate::proofs::Devices::set_aside))]
+pub fn messages_are_set_aside()
+    ensures { AreSetAside }
+{}
+
+/// A reply whose command says the size says the same to a master that takes any size.
+#[tactic(auto, using(crate::proofs::Devices::sized_replies))]
+pub fn sized_replies_are_replies()
+    ensures { SizedRepliesAreReplies }
+{}
+
+/// A slave shows the value of a parameter that it keeps, and takes each of the same length, in each state.
+#[tactic(auto, using(crate::proofs::Devices::parameters_kept))]
+pub fn parameters_are_kept()
+    ensures { ParametersAreKept }
+{}
+
+/// No answer changes how many bytes a parameter has.
+#[tactic(auto, using(crate::proofs::Devices::sizes_stay))]
+pub fn sizes_stay()
+    ensures { SizesStay }
+{}
+
+/// As the power comes on each parameter has as many bytes as its download.
+#[tactic(auto, using(crate::proofs::Devices::first_sizes))]
+pub fn first_values_have_sizes()
+    ensures { FirstValuesHaveSizes }
+{}
+
+/// A type without parameters has its identity, the objects that assign PDOs and those of its PDOs, and what a full slave has
+/// besides.
+#[tactic(auto, using(crate::proofs::Devices::plain_dictionary))]
+pub fn plain_dictionaries()
+    ensures { PlainDictionaries }
+{}
+
+/// No answer changes a fixed assignment.
+#[tactic(auto, using(crate::proofs::Devices::fixed_stays))]
+pub fn fixed_assignments_stay()
+    ensures { FixedAssignmentsStay }
 {}

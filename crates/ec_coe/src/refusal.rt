@@ -7,13 +7,11 @@ ghost use Rattle.ec_coe.specs.Refusals.{detail_number, error_reply as error_repl
 use crate::abort_code::AbortCode;
 use crate::bytes::{byte_at, gathered, word_at};
 use crate::message::{BYTES_AFTER_HEADER, COE, Message, SdoCommand, Service};
+use crate::reply::SDO_REQUEST;
 use arrayvec::ArrayVec;
 
 /// The bytes of a refusal: those of a mailbox error, or as many as a message has.
 pub type RefusalBytes = ArrayVec<u8, 16>;
-
-/// The number of SDO requests in the CoE header.
-const SDO_REQUEST: u8 = 2;
 
 /// The number of SDO information in the CoE header.
 const SDO_INFORMATION: u8 = 8;

@@ -2,8 +2,10 @@
 
 ghost use Rattle.std.specs.Prelude.{◌≡◌};
 ghost use Rattle.ec_coe.specs.Messages.{size_number};
-ghost use Rattle.ec_coe.specs.Answers.{value_of};
-ghost use Rattle.ec_coe.specs.Objects.{byte_value, word_value, long_value};
+ghost use Rattle.ec_coe.specs.Objects.{byte_value, word_value, long_value, value_of};
+ghost use Rattle.ec_coe.specs.SwitchedOn.{value_size};
+
+use ec_device::ParameterSize;
 
 /// How many bytes a value has, as the command of an expedited SDO says it.
 #[derive(Clone, Copy, Debug, PartialEq, Eq)]
@@ -19,6 +21,17 @@ pub enum ValueSize {
 }
 
 impl ValueSize {
+    /// As many bytes as a parameter of this size has.
+    pub fn of(size: ParameterSize) -> Self
+        ensures { result ≡ value_size size }
+    {
+        match size {
+            ParameterSize::One => ValueSize::One,
+            ParameterSize::Two => ValueSize::Two,
+            ParameterSize::Four => ValueSize::Four,
+        }
+    }
+
     /// The number of bytes.
     pub fn number(self) -> u8
         ensures { result ≡ size_number self }

@@ -6,4 +6,4 @@ pub limits : ConstantsAreTheLimits
 limits = record { outputs = refl; inputs = refl; indices = refl; pdos = refl; entries = refl; entry_bits = refl; smallest_mailbox = refl; largest_mailbox = refl; name = refl }
 
 pub hardware : ConstantsAreTheHardware
-hardware = record { register = refl; inside = refl; size = refl; bytes = refl; fewest = refl; most = refl; last = refl; outputs = refl; inputs = refl }
+hardware = record { register = refl; inside = refl; size = refl; bytes = refl; fewest = refl; most = refl; slowest = refl; parameters = refl; last = refl; outputs = refl; inputs = refl }

@@ -1,6 +1,6 @@
 -- What a type says of real devices, and of simulated slaves that behave like them (a link table with `hardware`). A type of any
 -- other table says nothing of them: `None` is the slave of this profile, and each definition says what that has.
-use Rattle.std.specs.Prelude.{ℕ, ◌+◌, ◌-◌, ◌%◌, ◌<◌, ◌≤◌, ◌==◌, ◌≡◌, ◌≢◌, ◌&&◌, ◌||◌, Bool, true, false, nat_le, nat_lt, if◌then◌else◌, IsTrue, Option, None, Some}
+use Rattle.std.specs.Prelude.{ℕ, ◌+◌, ◌-◌, ◌%◌, ◌<◌, ◌≤◌, ◌==◌, ◌≡◌, ◌≢◌, ◌&&◌, ◌||◌, not, Bool, true, false, nat_le, nat_lt, if◌then◌else◌, IsTrue, Option, None, Some, is_some}
 use Rattle.std.specs.Option.{ForSome}
 use Rattle.ec_device.specs.declared.hardware.ProcessManager.{ProcessManager}
 use Rattle.ec_device.specs.declared.hardware.Hardware.{Hardware}
@@ -25,6 +25,9 @@ pub record IsHardware (m : Option Mailbox) (h : Hardware) : Type 0 where
   pub out_byte : h.out_manager.control ≤ 255
   pub in_byte : h.in_manager.control ≤ 255
   pub mailbox : ForSome m (λ b. IsBesideMailbox h)
+  -- only a mailbox can say which PDOs a device assigns
+  pub fixed : IsTrue h.is_fixed → IsTrue (is_some m)
+  pub slow : h.slow ≤ 100
   pub some_fmmus : 2 ≤ h.fmmus
   pub few_fmmus : h.fmmus ≤ 4
 
@@ -124,6 +127,26 @@ NamesGoBack = (o : Option Hardware) (a : ℕ) → other_name o (other_name o a) 
 abbrev pub has_firmware : Option Hardware → Bool
 has_firmware None = true
 has_firmware (Some h) = h.has_firmware
+
+-- whether its assignment of PDOs can't be written: the device assigns all PDOs of the type, in order
+abbrev pub is_fixed : Option Hardware → Bool
+is_fixed None = false
+is_fixed (Some h) = h.is_fixed
+
+-- Whether the master says which PDOs a slave assigns (ETG.1000.6, "Sync manager PDO assignment"): that takes a mailbox, and an
+-- assignment that isn't fixed. A slave of any other type assigns all of them, in order.
+abbrev pub is_assignable : Option Mailbox → Option Hardware → Bool
+is_assignable m o = is_some m && not (is_fixed o)
+
+-- how many firmware steps later than another a simulated slave decides a request to its AL control
+abbrev pub slow : Option Hardware → ℕ
+slow None = 0
+slow (Some h) = h.slow
+
+-- whether a simulated slave sends an emergency as it enters PREOP from INIT
+abbrev pub has_emergency : Option Hardware → Bool
+has_emergency None = false
+has_emergency (Some h) = h.has_emergency
 
 -- how many FMMUs a slave has: those from number 0 on
 abbrev pub fmmu_count : Option Hardware → ℕ

@@ -8,6 +8,7 @@ use Rattle.ec_device.specs.declared.slave_type.Device.{Device}
 use Rattle.ec_device.specs.declared.slave_type.Identity.{Identity}
 use Rattle.ec_device.specs.declared.slave_type.Face.{Face}
 use Rattle.ec_device.specs.declared.hardware.Hardware.{Hardware}
+use Rattle.ec_device.specs.declared.parameter.Parameter.{Parameter}
 
 -- the value of a `SlaveType`
 pub record SlaveKind : Type 0 where
@@ -24,6 +25,8 @@ pub record SlaveKind : Type 0 where
   pub face : Option Face
   -- what it says of real devices
   pub hardware : Option Hardware
+  -- the downloads that its slaves get before their process data
+  pub init : List Parameter
 
 -- what a slave of the device shows, which has a serial number of its own
 abbrev pub device_identity : Device → ℕ → Identity
@@ -87,7 +90,7 @@ pub record IsWithinLimits (m : Option Mailbox) (outs ins : List Pdo) : Type 0 wh
   pub outputs : ArePdos first_output_index outs
   pub inputs : ArePdos first_input_index ins
 
--- a type without PDOs, mailbox, face and hardware, which takes part in LRW
+-- a type without PDOs, mailbox, face, hardware and parameters, which takes part in LRW
 abbrev pub plain_kind : SlaveKind
 plain_kind = record {
   device = record { vendor = 0; product = 0; revision = 0 };
@@ -99,4 +102,5 @@ plain_kind = record {
   lrw = true;
   face = None;
   hardware = None;
+  init = [];
 }

@@ -15,6 +15,8 @@ pub const PINS_BYTES: u16 = 4;
 pub const MIN_FMMUS: u8 = 2;
 /// The most FMMUs that a simulated slave has.
 pub const MAX_FMMUS: u8 = 4;
+/// How many firmware steps later than another a simulated slave may decide a request.
+pub const MAX_SLOW: u8 = 100;
 /// The highest number of a sync manager.
 pub const LAST_MANAGER: u8 = 3;
 
@@ -49,6 +51,12 @@ pub struct Hardware {
     pub has_pins: bool,
     /// Whether the device has firmware; the AL status of one without is a copy of its AL control.
     pub has_firmware: bool,
+    /// Whether its assignment of PDOs can't be written: all PDOs of the type, in order.
+    pub is_fixed: bool,
+    /// How many firmware steps later than another a simulated slave decides a request to its AL control, 0 to 100.
+    pub slow: u8,
+    /// Whether a simulated slave sends an emergency as it enters PREOP from INIT.
+    pub has_emergency: bool,
     /// How many FMMUs a simulated slave has, 2 to 4.
     pub fmmus: u8,
     /// Whether a device of any revision is one of the type.

@@ -1,10 +1,12 @@
 //! Types of slaves: device, mailbox, PDOs and entries.
-ghost use Rattle.std.specs.Prelude.{◌≡◌, ◌<◌, ◌≤◌, ◌↔◌, length, All, AllPairs, ◌≢◌, IsTrue, IfSome, IfOk, Some, None};
+ghost use Rattle.std.specs.Prelude.{◌≡◌, ◌<◌, ◌≤◌, ◌↔◌, [], length, All, AllPairs, ◌≢◌, IsTrue, IfSome, IfOk, Some, None};
 ghost use Rattle.std.specs.Option.{option_copied};
-ghost use Rattle.ec_device.specs.Hardware.{IsHardware, manager_number, manager_place, other_name, has_firmware, fmmu_count, takes_any_revision, out_manager, in_manager};
+ghost use Rattle.ec_device.specs.Hardware.{IsHardware, manager_number, manager_place, other_name, has_firmware, is_fixed, is_assignable, slow, has_emergency, fmmu_count, takes_any_revision, out_manager, in_manager};
+ghost use Rattle.ec_device.specs.Parameters.{AreParameters};
 ghost use Rattle.ec_device.specs.Types.{IsEntry, IsPdo, ArePdos, IsMailbox, IsFace, IsWithinLimits, device_identity, device_of, pdo_bits, pdos_bits, plain_kind, first_output_index, first_input_index};
 
 use crate::hardware::{Hardware, MAX_FMMUS, ProcessManager};
+use crate::parameter::Parameter;
 use ec_listed::Listed;
 use std::alloc::{AllocError, Global};
 use std::marker::Model;
@@ -114,11 +116,13 @@ pub struct SlaveType {
     lrw: bool,
     face: Option<Face>,
     hardware: Option<Hardware>,
+    init: Listed<Parameter>,
 }
 
 impl Model for SlaveType {
     ghost use Rattle.std.specs.Option.{ForSome};
     ghost use Rattle.ec_device.specs.Hardware.{IsHardware};
+    ghost use Rattle.ec_device.specs.Parameters.{AreParameters};
     ghost use Rattle.ec_device.specs.Types.{SlaveKind, IsFace, IsWithinLimits};
 
     ghost Value = { SlaveKind };
@@ -133,9 +137,10 @@ impl Model for SlaveType {
       lrw = t.lrw;
       face = t.face;
       hardware = t.hardware;
+      init = t.init;
     } };
 
-    ghost invariant = { λ t. IsWithinLimits t.mailbox t.outputs t.inputs × ForSome t.face IsFace × ForSome t.hardware (IsHardware t.mailbox) };
+    ghost invariant = { λ t. IsWithinLimits t.mailbox t.outputs t.inputs × ForSome t.face IsFace × ForSome t.hardware (IsHardware t.mailbox) × AreParameters t.mailbox t.init };
 }
 
 impl Device {
@@ -273,9 +278,10 @@ impl SlaveType {
     }
 
     /// The type of these parts, which `is_within_limits` accepts. `out_start` and `in_start` are
-    /// the addresses of the output and the input sync manager, inside the slave. It has no face and no
-    /// hardware.
+    /// the addresses of the output and the input sync manager, inside the slave. It has no face, no
+    /// hardware and no parameters.
     pub fn new(
+        alloc: Global,
         device: Device,
         mailbox: Option<Mailbox>,
         out_start: u16,
@@ -295,6 +301,7 @@ impl SlaveType {
           lrw = lrw;
           face = None;
           hardware = None;
+          init = [];
         } }
     {
         SlaveType {
@@ -307,6 +314,7 @@ impl SlaveType {
             lrw,
             face: None,
             hardware: None,
+            init: Listed::new(alloc),
         }
     }
 
@@ -329,6 +337,7 @@ impl SlaveType {
             lrw: true,
             face: None,
             hardware: None,
+            init: Listed::new(alloc),
         }
     }
 
@@ -346,6 +355,7 @@ impl SlaveType {
             lrw: has_lrw,
             face,
             hardware,
+            init,
         } = self;
         Ok(SlaveType {
             device: *device,
@@ -357,6 +367,7 @@ impl SlaveType {
             lrw: *has_lrw,
             face: copied_face(alloc, face)?,
             hardware: *hardware,
+            init: Listed::copied(alloc, init.as_slice())?,
         })
     }
 
@@ -391,6 +402,22 @@ impl SlaveType {
         ensures limits { IfSome result (λ h. IsHardware self.now.mailbox h.now) }
     {
         self.hardware.as_ref()
+    }
+
+    /// The type's slaves get these downloads from now on, in place of those that they got.
+    pub fn prepare(&mut self, init: Listed<Parameter>)
+        requires { AreParameters self.old.mailbox init }
+        ensures { self.new ≡ record self.old { init = init } }
+    {
+        self.init = init;
+    }
+
+    /// The downloads that its slaves get before their process data, in order.
+    pub fn init(&self) -> &[Parameter]
+        ensures value { result.now ≡ self.now.init }
+        ensures limits { AreParameters self.now.mailbox result.now }
+    {
+        self.init.as_slice()
     }
 
     /// The number of the sync manager at a place: mailbox out, mailbox in, outputs, inputs.
@@ -455,6 +482,44 @@ impl SlaveType {
         match &self.hardware {
             None => true,
             Some(hardware) => hardware.has_firmware,
+        }
+    }
+
+    /// Whether the assignment of PDOs of its slaves can't be written: all PDOs of the type, in order.
+    pub fn is_fixed(&self) -> bool
+        ensures { result ≡ is_fixed self.now.hardware }
+    {
+        match &self.hardware {
+            None => false,
+            Some(hardware) => hardware.is_fixed,
+        }
+    }
+
+    /// Whether the master says which PDOs its slaves assign.
+    pub fn is_assignable(&self) -> bool
+        ensures { result ≡ is_assignable self.now.mailbox self.now.hardware }
+    {
+        self.mailbox.is_some() && !self.is_fixed()
+    }
+
+    /// How many firmware steps later than others its simulated slaves decide a request to their AL control.
+    pub fn slow(&self) -> u8
+        ensures value { result ≡ slow self.now.hardware }
+        ensures few { result ≤ 100 }
+    {
+        match &self.hardware {
+            None => 0,
+            Some(hardware) => hardware.slow,
+        }
+    }
+
+    /// Whether its simulated slaves send an emergency as they enter PREOP from INIT.
+    pub fn has_emergency(&self) -> bool
+        ensures { result ≡ has_emergency self.now.hardware }
+    {
+        match &self.hardware {
+            None => false,
+            Some(hardware) => hardware.has_emergency,
         }
     }
 

@@ -1,11 +1,12 @@
 //! What a start-up failed by, as a sentence.
-use crate::steps::{Step, step_of};
+use crate::cause::{Cause, Known, cause_of};
+use crate::steps::{Request, Step, step_of};
 use ec_al::StatusCode;
 use ec_coe::AbortCode;
-use ec_device::Device;
+use ec_device::{Device, Parameter};
 use ec_diagnostic::Counted;
 use ec_link::Plan;
-use ec_start::StartError;
+use ec_start::{Heard, SdoRequest, StartError, Startup, Transfer};
 use ec_table::{Table, TypeRow};
 use std::fmt;
 
@@ -24,8 +25,10 @@ const OTHER_CODE: &str = "a code that the standard or the vendor explains";
 pub struct StartFault<'t> {
     table: &'t Table,
     error: StartError,
-    /// The step that the error names, if it was looked up.
+    /// The step at which it failed, if it was looked up.
     step: Option<Step>,
+    /// The message that was set aside last.
+    heard: Option<Heard>,
 }
 
 /// The place of a slave in a table, which may not have it. It is printed as `slave`, its place and its name.
@@ -46,7 +49,27 @@ impl<'t> StartFault<'t> {
             StartError::Counter { step } | StartError::TooSlow { step } => step_of(plan, step),
             _ => None,
         };
-        StartFault { table, error, step }
+        StartFault {
+            table,
+            error,
+            step,
+            heard: None,
+        }
+    }
+
+    /// What a start-up of a table's plan has failed by, at which step, and what a slave said before.
+    pub fn of_startup(
+        table: &'t Table,
+        plan: &Plan,
+        startup: &Startup<'_>,
+        error: StartError,
+    ) -> StartFault<'t> {
+        StartFault {
+            table,
+            error,
+            step: step_of(plan, startup.place()),
+            heard: startup.heard(),
+        }
     }
 
     /// As [`StartFault::of_plan`], for an error that names no step.
@@ -55,12 +78,50 @@ impl<'t> StartFault<'t> {
             table,
             error,
             step: None,
+            heard: None,
         }
     }
 
-    /// The step that the error names, if it was looked up and found.
+    /// The step at which it failed, if it was looked up and found.
     pub fn step(&self) -> Option<Step> {
         self.step
+    }
+
+    /// The request at which it failed, if that is known.
+    fn request(&self) -> Option<SdoRequest> {
+        self.step?.request()
+    }
+
+    /// Whether the slave that aborted a transfer has parameters.
+    fn has_parameters(&self) -> bool {
+        let StartError::Abort { slave, .. } = self.error else {
+            return false;
+        };
+        let at = SlaveAt::new(self.table, slave);
+        match (at.kind(), self.table.slaves().get(slave)) {
+            (Some((_, kind)), Some(row)) => {
+                !kind.init.as_slice().is_empty() || !row.init.as_slice().is_empty()
+            }
+            _ => false,
+        }
+    }
+
+    /// The likely cause, if anything suggests one.
+    pub fn cause(&self) -> Option<Cause> {
+        let known = Known {
+            hardware: self.table.is_hardware(),
+            has_parameters: self.has_parameters(),
+            step: self.step,
+        };
+        cause_of(self.error, known)
+    }
+
+    /// What to do, if the likely cause says it, and else this.
+    pub fn advice_or(&self, advice: &'static str) -> &'static str {
+        match self.cause() {
+            Some(cause) => cause.advice,
+            None => advice,
+        }
     }
 
     /// Writes which step it is, and what went wrong there.
@@ -97,6 +158,21 @@ impl<'t> SlaveAt<'t> {
 
 impl fmt::Display for StartFault<'_> {
     fn fmt<W: fmt::Write>(&self, f: &mut fmt::Formatter<W>) -> fmt::Result {
+        self.write_error(f)?;
+        if self.table.is_hardware() {
+            self.write_request(f)?;
+            self.write_heard(f)?;
+        }
+        match self.cause() {
+            Some(cause) => write!(f, "; {}", cause.words),
+            None => Ok(()),
+        }
+    }
+}
+
+impl StartFault<'_> {
+    /// Writes what went wrong, and at which slave or step.
+    fn write_error<W: fmt::Write>(&self, f: &mut fmt::Formatter<W>) -> fmt::Result {
         let table = self.table;
         match self.error {
             StartError::BadMailbox { slave } => {
@@ -141,6 +217,75 @@ impl fmt::Display for StartFault<'_> {
                 )
             }
         }
+    }
+}
+
+impl StartFault<'_> {
+    /// Writes which request the slave refused or answered otherwise: its row of `init`, or the value that the table has.
+    fn write_request<W: fmt::Write>(&self, f: &mut fmt::Formatter<W>) -> fmt::Result {
+        let slave = match self.error {
+            StartError::BadMailbox { slave }
+            | StartError::Abort { slave, .. }
+            | StartError::Mapping { slave, .. } => slave,
+            _ => return Ok(()),
+        };
+        let Some(request) = self.request() else {
+            return Ok(());
+        };
+        write!(f, "; it was {}", Request(request))?;
+        if let Transfer::Upload(wanted) = request.transfer {
+            return write!(f, ", and the table has 0x{:X} there", wanted.number);
+        }
+        match row_of(SlaveAt::new(self.table, slave), &request) {
+            Some((owner, row)) => write!(f, ", row {row} of `init` of {owner}"),
+            None => Ok(()),
+        }
+    }
+
+    /// Writes what a slave said of itself in place of a reply.
+    fn write_heard<W: fmt::Write>(&self, f: &mut fmt::Formatter<W>) -> fmt::Result {
+        let Some(Heard { slave, emergency }) = self.heard else {
+            return Ok(());
+        };
+        let at = SlaveAt::new(self.table, slave);
+        match emergency {
+            Some(emergency) => {
+                let (code, register) = (emergency.code, emergency.register);
+                write!(
+                    f,
+                    "; {at} sent an emergency, error code 0x{code:04X}, error register 0x{register:02X}"
+                )
+            }
+            None => write!(f, "; {at} sent a message of another protocol"),
+        }
+    }
+}
+
+/// The row of `init` that a request writes, counted from 1, and whose it is.
+fn row_of(at: SlaveAt<'_>, request: &SdoRequest) -> Option<(&'static str, usize)> {
+    let (_, kind) = at.kind()?;
+    if let Some(row) = row_in(kind.init.as_slice(), request) {
+        return Some(("its type", row));
+    }
+    let slave = at.table.slaves().get(at.place)?;
+    Some(("the slave", row_in(slave.init.as_slice(), request)?))
+}
+
+/// The first row, counted from 1, that a request writes.
+fn row_in(parameters: &[Parameter], request: &SdoRequest) -> Option<usize> {
+    let place = parameters
+        .iter()
+        .position(|parameter| is_written(parameter, request))?;
+    Some(place.saturating_add(1))
+}
+
+/// Whether a request writes a parameter.
+fn is_written(parameter: &Parameter, request: &SdoRequest) -> bool {
+    match request.transfer {
+        Transfer::Download(value) => {
+            parameter.is_of(request.index, request.subindex) && parameter.value == value.number
+        }
+        Transfer::Upload(_) => false,
     }
 }
 

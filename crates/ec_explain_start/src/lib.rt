@@ -1,6 +1,7 @@
 //! Why a start-up or a cycle failed, for people: at which slave and step, what that means, and what to do.
 #![tactic(auto)]
 
+mod cause;
 mod fault;
 mod starting;
 mod steps;

@@ -1,8 +1,10 @@
 //! Why a start-up or a cycle failed: refusals 9, 26 to 38.
 use crate::fault::{DeviceText, SlaveAt, StartFault};
+use crate::steps::is_assignment;
+use ec_coe::OUTPUT_ASSIGNMENT;
 use ec_cycle::CycleError;
 use ec_device::{Device, Entry, FIRST_INPUT_INDEX};
-use ec_diagnostic::{Diagnosis, MarkedPart, PathStep};
+use ec_diagnostic::{Counted, Diagnosis, MarkedPart, PathStep};
 use ec_link::compile;
 use ec_start::StartError;
 use ec_table::{Direction, Table, TypeRow};
@@ -22,6 +24,9 @@ const REFUSED: &str = "correct what the code names in the slave's type or in wha
 
 /// What to do if a slave aborted a transfer.
 const ABORTED: &str = "correct the PDOs of its type, or `out` and `in` of the slave";
+
+/// What to do if a slave assigns other PDOs.
+const ASSIGNED: &str = "give the type the PDOs that the device assigns, in its order";
 
 /// What to do if the frame of a step came back otherwise than it must.
 const COUNTER: &str = "see whether a slave was switched off or unplugged, and start again";
@@ -45,6 +50,13 @@ const FAULTY_WIRE: (&str, &str) = (
 #[derive(Clone, Copy)]
 struct Mapped<'t> {
     entries: &'t [Entry],
+    subindex: u8,
+}
+
+/// What an assignment must hold by the table: at subindex 0 the number of PDOs, else one of them. It is printed in words.
+#[derive(Clone, Copy)]
+struct Assigned<'t> {
+    indices: &'t [u16],
     subindex: u8,
 }
 
@@ -119,6 +131,19 @@ impl fmt::Display for Mapped<'_> {
     }
 }
 
+impl fmt::Display for Assigned<'_> {
+    fn fmt<W: fmt::Write>(&self, f: &mut fmt::Formatter<W>) -> fmt::Result {
+        let Assigned { indices, subindex } = *self;
+        if subindex == 0 {
+            return write!(f, "{}", Counted(indices.len(), "PDO"));
+        }
+        match indices.get(usize::from(subindex) - 1) {
+            Some(index) => write!(f, "the PDO 0x{index:04X}"),
+            None => f.write_str("nothing"),
+        }
+    }
+}
+
 /// Adds a remark that has no place, and what to do.
 fn explain_plain(diagnosis: &mut Diagnosis<'_>, (words, advice): (&str, &str)) {
     diagnosis.note(words);
@@ -126,9 +151,14 @@ fn explain_plain(diagnosis: &mut Diagnosis<'_>, (words, advice): (&str, &str)) {
 }
 
 /// Adds remarks on what a start-up failed by at a slave, and on what to do.
-fn explain_slave(diagnosis: &mut Diagnosis<'_>, slave: usize, fault: StartFault<'_>, advice: &str) {
+fn explain_slave(
+    diagnosis: &mut Diagnosis<'_>,
+    slave: usize,
+    fault: StartFault<'_>,
+    advice: &'static str,
+) {
     at_slave(diagnosis, slave, fault);
-    diagnosis.advise(advice);
+    diagnosis.advise(fault.advice_or(advice));
 }
 
 /// Adds a remark on what a start-up failed by at a slave.
@@ -146,6 +176,10 @@ fn explain_mapping(
 ) {
     let (index, subindex) = object;
     at_slave(diagnosis, at.place, fault);
+    if is_assignment(index) {
+        at_assignment(diagnosis, at, index, subindex);
+        return diagnosis.advise(fault.advice_or(ASSIGNED));
+    }
     at_pdo(diagnosis, at, index, subindex);
     if subindex == 0 {
         return diagnosis.advise("give the PDO of the type the entries that the device has");
@@ -154,6 +188,31 @@ fn explain_mapping(
     diagnosis.advise(format_args!(
         "correct the PDO of the type: what the device has is the entry [0x{object:04X}, 0x{sub:02X}, {bits}]"
     ));
+    if at.table.is_hardware() {
+        diagnosis.advise("if the device lets its mapping be written, write it by `init`");
+    }
+}
+
+/// Adds a remark on what a slave's fixed assignment must have at a subindex, and marks what the slave assigns.
+fn at_assignment(diagnosis: &mut Diagnosis<'_>, at: SlaveAt<'_>, index: u16, subindex: u8) {
+    let Some(row) = at.table.slaves().get(at.place) else {
+        return;
+    };
+    let (direction, key) = if index == OUTPUT_ASSIGNMENT {
+        (Direction::Out, "out")
+    } else {
+        (Direction::In, "in")
+    };
+    let wanted = Assigned {
+        indices: row.assigned(direction),
+        subindex,
+    };
+    diagnosis.at_key(
+        "slave",
+        at.place,
+        key,
+        format_args!("the table has {wanted} there"),
+    );
 }
 
 /// Adds a remark on what the PDO of a slave's type has at a subindex, and marks the PDO.
@@ -189,11 +248,17 @@ fn at_pdo(diagnosis: &mut Diagnosis<'_>, at: SlaveAt<'_>, index: u16, subindex: 
 }
 
 /// Adds remarks on a step that failed, if the table has a plan with it, and on what to do.
-fn explain_step(diagnosis: &mut Diagnosis<'_>, table: &Table, error: StartError, advice: &str) {
-    if let Some(fault) = fault_of_step(diagnosis, table, error) {
-        at_step(diagnosis, fault);
-    }
-    diagnosis.advise(advice);
+fn explain_step(
+    diagnosis: &mut Diagnosis<'_>,
+    table: &Table,
+    error: StartError,
+    advice: &'static str,
+) {
+    let Some(fault) = fault_of_step(diagnosis, table, error) else {
+        return diagnosis.advise(advice);
+    };
+    at_step(diagnosis, fault);
+    diagnosis.advise(fault.advice_or(advice));
 }
 
 /// What a start-up failed by at a step, if the table has a plan.
@@ -248,9 +313,9 @@ fn explain_identity(
                 "what it shows is the type {name} of the table: put the slaves into the order in which a frame passes them"
             ));
         }
-        None => diagnosis.advise(
+        None => diagnosis.advise(fault.advice_or(
             "put the slaves into the order in which a frame passes them, or correct vendor, product and revision of the type",
-        ),
+        )),
     }
 }
 

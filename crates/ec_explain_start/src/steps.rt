@@ -1,4 +1,5 @@
 //! The steps of a start-up in words.
+use ec_coe::{INPUT_ASSIGNMENT, OUTPUT_ASSIGNMENT, SdoValue};
 use ec_diagnostic::Counted;
 use ec_link::Plan;
 use ec_start::{Action, SdoRequest, SiiAccess, Startup, Transfer, step_at};
@@ -10,7 +11,7 @@ pub struct Step(Action);
 
 /// A request to a slave. It is printed in words.
 #[derive(Clone, Copy)]
-struct Request(SdoRequest);
+pub struct Request(pub SdoRequest);
 
 /// The step with this number of a plan's start-up; `None` behind the last.
 pub fn step_of(plan: &Plan, number: usize) -> Option<Step> {
@@ -24,6 +25,21 @@ impl Step {
     /// The slave that it is for; none if it is for all slaves.
     pub fn slave(&self) -> Option<usize> {
         self.0.slave()
+    }
+
+    /// Its action.
+    pub fn action(&self) -> Action {
+        self.0
+    }
+
+    /// The request that it sends, or whose reply it awaits.
+    pub fn request(&self) -> Option<SdoRequest> {
+        match self.0 {
+            Action::SendRequest { request, .. }
+            | Action::AwaitReply { request, .. }
+            | Action::AwaitFreeReply { request, .. } => Some(request),
+            _ => None,
+        }
     }
 }
 
@@ -54,7 +70,7 @@ impl fmt::Display for Step {
                 let request = Request(request);
                 write!(f, "a request is written into its mailbox: {request}")
             }
-            Action::AwaitReply { request, .. } => {
+            Action::AwaitReply { request, .. } | Action::AwaitFreeReply { request, .. } => {
                 let request = Request(request);
                 write!(f, "a reply is awaited in its mailbox: {request}")
             }
@@ -83,40 +99,64 @@ impl fmt::Display for Request {
             transfer,
         } = self.0;
         match transfer {
-            Transfer::Upload(_) if subindex == 0 => {
-                write!(
-                    f,
-                    "the upload of 0x{index:04X}:0x00, how many entries the PDO has"
-                )
-            }
             Transfer::Upload(_) => {
-                write!(
-                    f,
-                    "the upload of 0x{index:04X}:0x{subindex:02X}, an entry of the PDO"
-                )
+                let what = uploaded(index, subindex);
+                write!(f, "the upload of 0x{index:04X}:0x{subindex:02X}, {what}")
             }
-            Transfer::Download(value) if subindex > 0 => {
-                let pdo = value.number;
-                write!(
-                    f,
-                    "the download of PDO 0x{pdo:04X} into 0x{index:04X}:0x{subindex:02X}"
-                )
-            }
-            Transfer::Download(value) if value.number == 0 => {
-                write!(
-                    f,
-                    "the download of 0 into 0x{index:04X}:0x00, before the PDOs are assigned"
-                )
+            Transfer::Download(value) if is_assignment(index) => {
+                write_assigned(f, index, subindex, value)
             }
             Transfer::Download(value) => {
-                let count = Counted(value.number as usize, "PDO");
+                let number = value.number;
                 write!(
                     f,
-                    "the download of the count into 0x{index:04X}:0x00, {count}"
+                    "the download of the parameter 0x{number:X} into 0x{index:04X}:0x{subindex:02X}"
                 )
             }
         }
     }
+}
+
+/// Whether an object says which PDOs a slave assigns.
+pub fn is_assignment(index: u16) -> bool {
+    index == OUTPUT_ASSIGNMENT || index == INPUT_ASSIGNMENT
+}
+
+/// What an object has at a subindex that is uploaded.
+fn uploaded(index: u16, subindex: u8) -> &'static str {
+    match (is_assignment(index), subindex) {
+        (false, 0) => "how many entries the PDO has",
+        (false, _) => "an entry of the PDO",
+        (true, 0) => "how many PDOs are assigned",
+        (true, _) => "a PDO that is assigned",
+    }
+}
+
+/// Writes what a download to an assignment does.
+fn write_assigned<W: fmt::Write>(
+    f: &mut fmt::Formatter<W>,
+    index: u16,
+    subindex: u8,
+    value: SdoValue,
+) -> fmt::Result {
+    let pdo = value.number;
+    if subindex > 0 {
+        return write!(
+            f,
+            "the download of PDO 0x{pdo:04X} into 0x{index:04X}:0x{subindex:02X}"
+        );
+    }
+    if pdo == 0 {
+        return write!(
+            f,
+            "the download of 0 into 0x{index:04X}:0x00, before the PDOs are assigned"
+        );
+    }
+    let count = Counted(pdo as usize, "PDO");
+    write!(
+        f,
+        "the download of the count into 0x{index:04X}:0x00, {count}"
+    )
 }
 
 /// The words for the step that asks for a word of the identity, by its number.

@@ -21,7 +21,42 @@ pub fn explain_impossible(diagnosis: &mut Diagnosis<'_>, element: Element<'_>) {
             return;
         }
     }
-    explain_no_firmware(diagnosis, element);
+    if !explain_without_mailbox(diagnosis, element) {
+        explain_no_firmware(diagnosis, element);
+    }
+}
+
+/// Adds remarks on a key of a type without a mailbox that wants one; returns whether there is one.
+fn explain_without_mailbox(diagnosis: &mut Diagnosis<'_>, element: Element<'_>) -> bool {
+    let members = element.members;
+    if members.get("mailbox").is_some() {
+        return false;
+    }
+    let is_fixed = match members.get("fixed") {
+        Some(truth) => truth.as_bool() == Some(true),
+        None => false,
+    };
+    if is_fixed {
+        element.under("fixed", MarkedPart::Key).say(
+            diagnosis,
+            "a fixed assignment is read by a mailbox; a type without one assigns all its PDOs anyway",
+        );
+        diagnosis.advise("leave `fixed` out, or give the type a `mailbox`");
+    }
+    let has_init = !items_of(members.get("init")).is_empty();
+    if has_init {
+        explain_no_downloads(diagnosis, element);
+    }
+    is_fixed || has_init
+}
+
+/// Adds remarks on downloads without a mailbox.
+pub fn explain_no_downloads(diagnosis: &mut Diagnosis<'_>, element: Element<'_>) {
+    element.under("init", MarkedPart::Key).say(
+        diagnosis,
+        "downloads come by a mailbox, and the type has none",
+    );
+    diagnosis.advise("leave `init` out, or give the type a `mailbox`");
 }
 
 /// Adds remarks on one manager for both directions; returns whether there is one.

@@ -1,8 +1,10 @@
 //! Why a value doesn't fit what its key takes.
 use crate::rule::{DIRECTIONS, Lacking, TRUTHS, is_key, word_of};
-use ec_device::{MAX_ENTRIES, MAX_NAME, MAX_PDOS};
+use ec_device::{MAX_ENTRIES, MAX_NAME, MAX_PARAMETERS, MAX_PDOS};
 use ec_diagnostic::{Diagnosis, MarkedPart, PathStep, Printable, printed};
-use ec_table::{ENTRY, Format, LINK_BITS, MAILBOX, MANAGER, Position, Rule, Section, Shape};
+use ec_table::{
+    ENTRY, Format, LINK_BITS, MAILBOX, MANAGER, PARAMETER, Position, Rule, Section, Shape,
+};
 use std::fmt;
 use toml::{Table, Value};
 
@@ -36,7 +38,21 @@ pub enum Misfit<'v> {
     NoKey(&'v str),
     /// A gap has a subindex.
     NamedGap,
+    /// A download has this many bits.
+    OddBits(i64),
+    /// The first doesn't lie in so many bits, which hold the second to the third.
+    NotHeld(i64, i64, i64),
 }
+
+/// How many items a download has.
+const PARAMETER_ITEMS: usize = 4;
+
+/// How many bits the value of a download may have, and the least and the highest number that they hold.
+static HELD: [(i64, i64, i64); 3] = [
+    (8, -0x80, 0xFF),
+    (16, -0x8000, 0xFFFF),
+    (32, -0x8000_0000, 0xFFFF_FFFF),
+];
 
 /// Where a remark stands: at the end of a path, by the key there or by its value.
 #[derive(Clone, Copy)]
@@ -89,6 +105,7 @@ impl<'s> Mark<'s> {
             Rule::Number(low, high) => hold_number(value, low, high),
             Rule::Mailbox => self.hold_numbers(value, &MAILBOX),
             Rule::Manager => self.hold_numbers(value, &MANAGER),
+            Rule::Parameters => self.hold_parameters(value),
             Rule::Indices(first, last) => self.hold_indices(value, first, last),
             Rule::Pdos(first, last) => self.hold_pdos(value, first, last),
             Rule::Index => hold_index(value, 0, u16::MAX),
@@ -195,6 +212,35 @@ impl<'s> Mark<'s> {
         }
     }
 
+    fn hold_parameters(&mut self, value: &'s Value) -> Result<(), Misfit<'s>> {
+        let parameters = listed(value, "a list of downloads")?;
+        for (place, parameter) in parameters.iter().enumerate() {
+            self.enter(PathStep::Item(place));
+            self.hold_parameter(parameter)?;
+            self.leave();
+        }
+        hold_count(parameters.len(), MAX_PARAMETERS, "downloads")
+    }
+
+    fn hold_parameter(&mut self, value: &'s Value) -> Result<(), Misfit<'s>> {
+        let items = listed(value, "a list of numbers")?;
+        let [_, _, bits, number] = items else {
+            return Err(Misfit::Length(items.len(), PARAMETER_ITEMS));
+        };
+        for (place, (item, (low, high))) in items.iter().zip(&PARAMETER[..2]).enumerate() {
+            self.enter(PathStep::Item(place));
+            hold_number(item, *low, *high)?;
+            self.leave();
+        }
+        self.enter(PathStep::Item(2));
+        let (least, most) = range_of(bits)?;
+        self.leave();
+        self.enter(PathStep::Item(3));
+        hold_held(number, least, most)?;
+        self.leave();
+        Ok(())
+    }
+
     /// Adds a step to the path; a path that is full stays as it is.
     fn enter(&mut self, step: PathStep<'s>) {
         let count = self.count;
@@ -252,6 +298,12 @@ impl fmt::Display for Misfit<'_> {
                 write!(f, "`{shown}` is no key of a PDO")
             }
             Misfit::NamedGap => f.write_str("a gap, which has index 0, has subindex 0 too"),
+            Misfit::OddBits(bits) => {
+                write!(f, "a download has 8, 16 or 32 bits, and not {bits}")
+            }
+            Misfit::NotHeld(number, least, most) => {
+                write!(f, "{number} is not from {least} to {most}")
+            }
         }
     }
 }
@@ -278,6 +330,27 @@ fn hold_number(value: &Value, low: u32, high: u32) -> Result<(), Misfit<'_>> {
         Ok(())
     } else {
         Err(Misfit::Outside(number, low, high))
+    }
+}
+
+/// The least and the highest number that the bits of a download hold.
+fn range_of(value: &Value) -> Result<(i64, i64), Misfit<'_>> {
+    let bits = wanted(value, value.as_integer(), "a number of bits")?;
+    for (held, least, most) in HELD {
+        if bits == held {
+            return Ok((least, most));
+        }
+    }
+    Err(Misfit::OddBits(bits))
+}
+
+/// Checks the value of a download.
+fn hold_held(value: &Value, least: i64, most: i64) -> Result<(), Misfit<'_>> {
+    let number = wanted(value, value.as_integer(), "a whole number")?;
+    if least <= number && number <= most {
+        Ok(())
+    } else {
+        Err(Misfit::NotHeld(number, least, most))
     }
 }
 

@@ -1,5 +1,5 @@
 //! Why a text is no link table: refusals 11 to 15.
-use crate::impossible::explain_impossible;
+use crate::impossible::{explain_impossible, explain_no_downloads};
 use crate::misfit::{Mark, Misfit};
 use crate::numbers::Numbers;
 use crate::rule::{Lacking, Named, Taken, is_key, shape_of, word_of};
@@ -340,25 +340,40 @@ fn meant_in_pdo(diagnosis: &mut Diagnosis<'_>, misfit: Misfit<'_>) -> Option<&'s
     meant_key(diagnosis, key, Shape::Pdo.keys(Format::full()))
 }
 
-/// Adds remarks on a slave that assigns PDOs of its own choice, though its type has no mailbox.
+/// Adds remarks on a slave that assigns PDOs of its own choice, though its type has no mailbox or a fixed assignment, or that
+/// gets downloads without a mailbox.
 fn explain_fixed(diagnosis: &mut Diagnosis<'_>, element: Element<'_>) {
     let Some(kind) = element.text("type") else {
         return;
     };
+    let has_mailbox = value_under(element.document, kind, "mailbox").is_some();
+    let why = if has_mailbox {
+        "a fixed assignment"
+    } else {
+        "no mailbox"
+    };
+    let mut has_other = false;
     for (key, list) in ASSIGNMENTS {
         let known = indices_under(element.document, kind, list);
         let written = element.members.get(key);
         if written.is_some() && !Numbers::under(written).is_same(known) {
+            has_other = true;
             let mark = element.under(key, MarkedPart::Key);
             mark.say(
                 diagnosis,
                 format_args!(
-                    "type {kind} has no mailbox, so its slaves assign all its PDOs, in the order of its `{list}`: {known}"
+                    "type {kind} has {why}, so its slaves assign all its PDOs, in the order of its `{list}`: {known}"
                 ),
             );
         }
     }
-    diagnosis.advise("leave `out` and `in` out, or give the type a `mailbox`");
+    if !has_other {
+        explain_no_downloads(diagnosis, element);
+    } else if has_mailbox {
+        diagnosis.advise("leave `out` and `in` out, or leave the type's `fixed` out");
+    } else {
+        diagnosis.advise("leave `out` and `in` out, or give the type a `mailbox`");
+    }
 }
 
 /// Adds remarks on a name or an index that stands twice.
@@ -514,12 +529,17 @@ fn explain_unknown_pdo(
 
 /// The indices of the PDOs in a list of the type with this name; none if there is no such type.
 fn indices_under<'d>(document: &'d Table, kind: &str, list: &str) -> Numbers<'d> {
+    Numbers::under(value_under(document, kind, list))
+}
+
+/// The value under a key of the type with a name.
+fn value_under<'d>(document: &'d Table, kind: &str, key: &str) -> Option<&'d Value> {
     for row in elements_of(document, "type") {
         if text_under(row, "name") == Some(kind) {
-            return Numbers::under(row.get(list));
+            return row.get(key);
         }
     }
-    Numbers::under(None)
+    None
 }
 
 /// The text under a key of an element.

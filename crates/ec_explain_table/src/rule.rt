@@ -1,5 +1,5 @@
 //! The keys of a link table, and what each takes, in words.
-use ec_device::{MAX_NAME, MAX_PDOS};
+use ec_device::{MAX_NAME, MAX_PARAMETERS, MAX_PDOS};
 use ec_diagnostic::comma;
 use ec_table::{Key, MAILBOX, MANAGER, Rule, Section, Shape};
 use std::fmt;
@@ -118,6 +118,10 @@ impl fmt::Display for Taken {
             }
             Rule::Mailbox => write_mailbox(f),
             Rule::Manager => write_manager(f),
+            Rule::Parameters => write!(
+                f,
+                "a list of at most {MAX_PARAMETERS} downloads, each [index, subindex, bits, value] with 8, 16 or 32 bits"
+            ),
             Rule::Direction => f.write_str(DIRECTIONS),
             Rule::LinkBits => f.write_str(
                 "[first bit of the variable, first bit of the entry, number of bits]",

@@ -21,7 +21,7 @@ use Rattle.ec_scan.specs.Showing.{IsUsable, usable}
 use Rattle.ec_found.specs.declared.areas.Areas.{Areas}
 use Rattle.ec_found.specs.declared.found.Unsaid.{Unsaid}
 use Rattle.ec_found.specs.declared.reading.UsedManager.{UsedManager}
-use Rattle.ec_found.specs.Founds.{all_inputs, all_outputs, areas_of, areas_shown, areas_with, has_lrw, in_used, is_delivered, is_fixed, is_hardware, kept, kind_of, lacks, managers_in, merged, out_used, pdos_in, plain_pdo, unsaid_of, used_for, used_from, usual_areas, words_of}
+use Rattle.ec_found.specs.Founds.{all_inputs, all_outputs, areas_of, areas_shown, areas_with, byte_in, has_lrw, in_used, is_delivered, is_fixed, is_hardware, kept, kind_of, lacks, managers_in, merged, out_used, pdos_in, plain_pdo, unsaid_of, used_for, used_from, usual_areas, words_of}
 use Rattle.ec_found.specs.Laws.{FullTypesAreFound, ShowsType, as_hardware}
 use Rattle.ec_found.proofs.Ended.{category_alike}
 use Rattle.ec_found.proofs.EntryWords.{no_pdos}
@@ -119,16 +119,27 @@ ins_of : (k : SlaveKind) (ws : List ℕ) → managers_read ws ≡ sii_managers k
 ins_of k ws e = rw e (ins_used k k.mailbox)
 
 abbrev full_hardware : Bool → Hardware
-full_hardware pins = record { out_manager = usual_outputs; in_manager = usual_inputs; has_pins = pins; has_firmware = true; fmmus = 4; any_revision = false }
+full_hardware pins = record {
+  out_manager = usual_outputs;
+  in_manager = usual_inputs;
+  has_pins = pins;
+  has_firmware = true;
+  is_fixed = false;
+  slow = 0;
+  has_emergency = false;
+  fmmus = 4;
+  any_revision = false;
+}
 
 abbrev full_areas : SlaveKind → Bool → Areas
 full_areas k pins = record { out_start = k.out_start; in_start = k.in_start; hardware = full_hardware pins }
 
-areas_alike : (k : SlaveKind) (s : Shown) → managers_read (words_of 41 s) ≡ sii_managers k → s.has_firmware ≡ true → are_pins k.out_start ≡ false → areas_shown s ≡ full_areas k false
-areas_alike k s managers firmware no_pins =
-    ap (λ (o : Option UsedManager). areas_with (out_used o (used_for 4 s)) (in_used o (used_for 4 s)) s.has_firmware) (outs_of k (words_of 41 s) managers)
-    ∙ ap (λ (i : Option UsedManager). areas_with (out_used (Some (used 2 k.out_start 0x24)) i) (in_used (Some (used 2 k.out_start 0x24)) i) s.has_firmware) (ins_of k (words_of 41 s) managers)
-    ∙ ap (areas_with (used 2 k.out_start 0x24) (used 3 k.in_start 0x20)) firmware
+areas_alike : (k : SlaveKind) (s : Shown) → managers_read (words_of 41 s) ≡ sii_managers k → s.has_firmware ≡ true → is_fixed s ≡ false → are_pins k.out_start ≡ false → areas_shown s ≡ full_areas k false
+areas_alike k s managers firmware fixed no_pins =
+    ap (λ (o : Option UsedManager). areas_with (out_used o (used_for 4 s)) (in_used o (used_for 4 s)) s.has_firmware (is_fixed s)) (outs_of k (words_of 41 s) managers)
+    ∙ ap (λ (i : Option UsedManager). areas_with (out_used (Some (used 2 k.out_start 0x24)) i) (in_used (Some (used 2 k.out_start 0x24)) i) s.has_firmware (is_fixed s)) (ins_of k (words_of 41 s) managers)
+    ∙ ap (λ (b : Bool). areas_with (used 2 k.out_start 0x24) (used 3 k.in_start 0x20) b (is_fixed s)) firmware
+    ∙ ap (areas_with (used 2 k.out_start 0x24) (used 3 k.in_start 0x20) true) fixed
     ∙ ap (full_areas k) no_pins
 
 full_said : (o : Option Mailbox) → is_hardware o (full_hardware false) ≡ true
@@ -148,6 +159,7 @@ made device mailbox areas outputs inputs lrw = record {
   lrw = lrw;
   face = None;
   hardware = Some areas.hardware;
+  init = [];
 }
 
 alike : (f : Device → Option Mailbox → Areas → List Pdo → List Pdo → Bool → SlaveKind)
@@ -158,6 +170,15 @@ alike f d d2 m m2 a a2 os os2 is is2 l l2 e1 e2 e3 e4 e5 e6 = cc
 flag_back : (b : Bool) → not (bit_at (general_flags b) 1 == 1) ≡ b
 flag_back true = refl
 flag_back false = refl
+
+-- its assignment can be written
+not_fixed : (k : SlaveKind) (s : Shown) → usable s.mailbox ≡ k.mailbox → bytes_of (words_of 30 s) ≡ general_bytes k → (o : Option Mailbox) → k.mailbox ≡ o → is_fixed s ≡ false
+not_fixed k s mailbox general None e =
+    ap (λ (o : Option Mailbox). is_some o && (is_some (category_found 30 s.categories) && not (bit_at (byte_in (words_of 30 s) 5) 2 == 1))) (mailbox ∙ e)
+not_fixed k s mailbox general (Some m) e =
+    let byte : byte_in (words_of 30 s) 5 ≡ 5 = ap (λ (bs : List ℕ). slice_index bs 5) general ∙ ap coe_details e in
+    and_right (is_some (usable s.mailbox)) (is_some (category_found 30 s.categories) && not (bit_at (byte_in (words_of 30 s) 5) 2 == 1))
+    (and_right (is_some (category_found 30 s.categories)) (not (bit_at (byte_in (words_of 30 s) 5) 2 == 1)) (ap (λ (n : ℕ). not (bit_at n 2 == 1)) byte))
 
 -- what a slave is found by
 record IsRead (k : SlaveKind) (s : Shown) : Type 0 where
@@ -174,7 +195,10 @@ read_all k face s fits is_face used no_pins shows =
     let mailbox : usable s.mailbox ≡ k.mailbox = mailbox_found k s used shows in
     let managers : managers_read (words_of 41 s) ≡ sii_managers k =
     read_of managers_read (category_found 41 s.categories) (sii_managers k) (ap (option_map managers_read) (found_in k s 41 shows) ∙ back.managers) in
-    let shown : areas_shown s ≡ full_areas k false = areas_alike k s managers shows.firmware no_pins in
+    let general : bytes_of (words_of 30 s) ≡ general_bytes k =
+    read_of bytes_of (category_found 30 s.categories) (general_bytes k) (ap (option_map bytes_of) (found_in k s 30 shows) ∙ back.general) in
+    let fixed : is_fixed s ≡ false = not_fixed k s mailbox general k.mailbox refl in
+    let shown : areas_shown s ≡ full_areas k false = areas_alike k s managers shows.firmware fixed no_pins in
     let outs : pdos_in (is_some s.outputs) (words_of 51 s) ≡ k.outputs =
     direction (is_some s.outputs) 2 first_output_index (category_found 51 s.categories) k.outputs refl fits.limits.outputs
     (ap (option_map pdos_read) (found_in k s 51 shows) ∙ back.outputs) in
@@ -185,9 +209,9 @@ read_all k face s fits is_face used no_pins shows =
       mailbox = mailbox;
       shown = shown;
       said = ap (λ (o : Option Mailbox). is_hardware o (areas_shown s).hardware) mailbox ∙ ap (λ (a : Areas). is_hardware k.mailbox a.hardware) shown ∙ full_said k.mailbox;
-      outputs = ap (λ (ps : List Pdo). merged ps s.outputs) outs ∙ merged_same k.outputs s.outputs fits.limits.outputs.apart fits.limits.outputs.few shows.outputs;
-      inputs = ap (λ (ps : List Pdo). merged ps s.inputs) ins ∙ merged_same k.inputs s.inputs fits.limits.inputs.apart fits.limits.inputs.few shows.inputs;
-      general = read_of bytes_of (category_found 30 s.categories) (general_bytes k) (ap (option_map bytes_of) (found_in k s 30 shows) ∙ back.general);
+      outputs = ap (λ (b : Bool). merged b (pdos_in (is_some s.outputs) (words_of 51 s)) s.outputs) fixed ∙ ap (λ (ps : List Pdo). merged false ps s.outputs) outs ∙ merged_same k.outputs s.outputs fits.limits.outputs.apart fits.limits.outputs.few shows.outputs;
+      inputs = ap (λ (b : Bool). merged b (pdos_in (is_some s.inputs) (words_of 50 s)) s.inputs) fixed ∙ ap (λ (ps : List Pdo). merged false ps s.inputs) ins ∙ merged_same k.inputs s.inputs fits.limits.inputs.apart fits.limits.inputs.few shows.inputs;
+      general = general;
     }
 
 same_kind : (k : SlaveKind) (s : Shown) → FitsKind k → device_of s.identity ≡ k.device → IsRead k s → kind_of s ≡ as_hardware k
@@ -202,9 +226,9 @@ same_kind k s fits device r =
 
 -- ---- nothing is left unsaid
 
-unsaid_none : (a b c d e : Bool) (v w x y z : Unsaid) → a ≡ false → b ≡ false → c ≡ false → d ≡ false → e ≡ false
-    → (if a then Some v else (if b then Some w else (if c then Some x else (if d then Some y else (if e then Some z else None))))) ≡ None
-unsaid_none a b c d e v w x y z p q r s t = rw (p, q, r, s, t) refl
+unsaid_none : (a b c d : Bool) (v w x y : Unsaid) → a ≡ false → b ≡ false → c ≡ false → d ≡ false
+    → (if a then Some v else (if b then Some w else (if c then Some x else (if d then Some y else None)))) ≡ None
+unsaid_none a b c d v w x y p q r s = rw (p, q, r, s) refl
 
 lacks_none : (first : ℕ) (ps qs : List Pdo) → ps ≡ qs → ArePdos first qs → lacks first ps ≡ false
 lacks_none first ps qs e limits =
@@ -215,24 +239,16 @@ lacks_none first ps qs e limits =
 nothing_unsaid : (k : SlaveKind) (s : Shown) → FitsKind k → ShowsType k s → IsRead k s → unsaid_of s ≡ None
 nothing_unsaid k s fits shows r =
     unsaid_none (not (s.mailbox.place.receive_size == 0) && is_none (usable s.mailbox)) (not (is_hardware (usable s.mailbox) (areas_shown s).hardware))
-    (lacks first_output_index (all_outputs s)) (lacks first_input_index (all_inputs s)) (is_some (usable s.mailbox) && is_fixed s) _ _ _ _ _
+    (lacks first_output_index (all_outputs s)) (lacks first_input_index (all_inputs s)) _ _ _ _
     (mailboxes k.mailbox refl) (ap not r.said)
     (lacks_none first_output_index (all_outputs s) k.outputs r.outputs fits.limits.outputs)
     (lacks_none first_input_index (all_inputs s) k.inputs r.inputs fits.limits.inputs)
-    (assignment k.mailbox refl)
   where
     mailboxes : (o : Option Mailbox) → k.mailbox ≡ o → (not (s.mailbox.place.receive_size == 0) && is_none (usable s.mailbox)) ≡ false
     mailboxes None e =
         let z : (s.mailbox.place.receive_size == 0) ≡ true = eq-eqb s.mailbox.place.receive_size 0 (shows.no_mailbox e) in
         ap (λ (b : Bool). not b && is_none (usable s.mailbox)) z
     mailboxes (Some m) e = and_right (not (s.mailbox.place.receive_size == 0)) (is_none (usable s.mailbox)) (ap (λ (o : Option Mailbox). is_none o) (r.mailbox ∙ e))
-
-    assignment : (o : Option Mailbox) → k.mailbox ≡ o → (is_some (usable s.mailbox) && is_fixed s) ≡ false
-    assignment None e = ap (λ (o : Option Mailbox). is_some o && is_fixed s) (r.mailbox ∙ e)
-    assignment (Some m) e =
-        let byte : slice_index (bytes_of (words_of 30 s)) 5 ≡ 5 = ap (λ (bs : List ℕ). slice_index bs 5) r.general ∙ ap coe_details e in
-        and_right (is_some (usable s.mailbox)) (is_fixed s)
-        (and_right (is_some (category_found 30 s.categories)) (not (bit_at (slice_index (bytes_of (words_of 30 s)) 5) 2 == 1)) (ap (λ (n : ℕ). not (bit_at n 2 == 1)) byte))
 
 pub full_types_are_found : FullTypesAreFound
 full_types_are_found k face s fits is_face plain usable no_pins shows =

@@ -67,7 +67,7 @@ joined_same ps qs apart h =
     ∙ ap (λ (xs : List Pdo). ps ++ xs) (none_besides ps qs h)
     ∙ append-nil ps
 
-pub merged_same : (ps : List Pdo) (o : Option (List Pdo)) → Apart ps → length ps ≤ 16 → ForSome o (All (Contains ps)) → merged ps o ≡ ps
+pub merged_same : (ps : List Pdo) (o : Option (List Pdo)) → Apart ps → length ps ≤ 16 → ForSome o (All (Contains ps)) → merged false ps o ≡ ps
 merged_same ps None apart few h = refl
 merged_same ps (Some qs) apart few h =
     ap (λ (xs : List Pdo). if nat_le (length xs) 16 then xs else exchanged_first ps qs) (joined_same ps qs apart (h qs refl))

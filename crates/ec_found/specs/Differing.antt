@@ -1,9 +1,9 @@
 -- What differs between a slave that was found and a table's. Of what the table leaves open, nothing differs: a revision, or a serial number
 -- of 0.
-use Rattle.std.specs.Prelude.{ℕ, ◌+◌, ◌==◌, ◌&&◌, ◌||◌, not, List, [], ◌∷◌, length, Bool, true, false, if◌then◌else◌, Option, Some, is_some, slice_get}
+use Rattle.std.specs.Prelude.{ℕ, ◌+◌, ◌==◌, ◌&&◌, ◌||◌, not, List, [], ◌∷◌, length, Bool, true, false, if◌then◌else◌, Option, Some, slice_get}
 use Rattle.ec_device.specs.declared.slave_type.Entry.{Entry}
 use Rattle.ec_device.specs.declared.slave_type.Pdo.{Pdo}
-use Rattle.ec_device.specs.Hardware.{takes_any_revision}
+use Rattle.ec_device.specs.Hardware.{is_assignable, takes_any_revision}
 use Rattle.ec_device.specs.Objects.{assigned_entries}
 use Rattle.ec_device.specs.Types.{SlaveKind}
 use Rattle.std.specs.Str.{bytes_eq}
@@ -25,10 +25,10 @@ same_entries _ _ = false
 abbrev pub differ : (pdos : List Pdo × List Pdo) → (assigned : List ℕ × List ℕ) → Bool
 differ pdos assigned = not (bytes_eq assigned.0 assigned.1 && same_entries (assigned_entries pdos.0 assigned.0) (assigned_entries pdos.1 assigned.1))
 
--- What a slave exchanges once it was started up by a row: a start-up assigns the PDOs of a direction by CoE, if the type has any. Else it
--- exchanges what it does now.
+-- What a slave exchanges once it was started up by a row: a start-up assigns the PDOs of a direction by CoE, if the type has any and they
+-- can be assigned. Else it exchanges what it does now.
 abbrev pub started : SlaveKind → List Pdo → (assigned found : List ℕ) → List ℕ
-started k pdos assigned found = if is_some k.mailbox && not (length pdos == 0) then assigned else found
+started k pdos assigned found = if is_assignable k.mailbox k.hardware && not (length pdos == 0) then assigned else found
 
 -- the slave of a row, whose type is `k`, and the one that was found in its place
 abbrev pub differs : SlaveKind → SlaveRow → Found → Differences

@@ -30,6 +30,15 @@ words_of number s = unwrap_or (category_found number s.categories) []
 abbrev pub byte_in : List ℕ → ℕ → ℕ
 byte_in words k = slice_index (bytes_of words) k
 
+-- ---- the general category
+-- Its byte 11, bit 1 says that the slave takes no part in LRW; byte 5, bit 2 says that its PDO assignment can be written, if CoE has it.
+
+abbrev pub has_lrw : Shown → Bool
+has_lrw s = not (bit_at (byte_in (words_of 30 s) 11) 1 == 1)
+
+abbrev pub is_fixed : Shown → Bool
+is_fixed s = is_some (usable s.mailbox) && (is_some (category_found 30 s.categories) && not (bit_at (byte_in (words_of 30 s) 5) 2 == 1))
+
 -- ---- sync managers
 
 -- what a sync manager is used for, where its bytes begin, and its control byte
@@ -73,26 +82,29 @@ in_used (Some m) None = if m.number == 3 then unused 2 0x20 else unused 3 0x20
 abbrev pub process_manager : UsedManager → ProcessManager
 process_manager m = record { number = m.number; control = m.control }
 
-abbrev pub hardware_with : (outs ins : UsedManager) → Bool → Hardware
-hardware_with outs ins has_firmware = record {
+abbrev pub hardware_with : (outs ins : UsedManager) → (has_firmware is_fixed : Bool) → Hardware
+hardware_with outs ins has_firmware is_fixed = record {
   out_manager = process_manager outs;
   in_manager = process_manager ins;
   has_pins = are_pins outs.start;
   has_firmware = has_firmware;
+  is_fixed = is_fixed;
+  slow = 0;
+  has_emergency = false;
   fmmus = 4;
   any_revision = false;
 }
 
-abbrev pub areas_with : (outs ins : UsedManager) → Bool → Areas
-areas_with outs ins has_firmware = record { out_start = outs.start; in_start = ins.start; hardware = hardware_with outs ins has_firmware }
+abbrev pub areas_with : (outs ins : UsedManager) → (has_firmware is_fixed : Bool) → Areas
+areas_with outs ins has_firmware is_fixed = record { out_start = outs.start; in_start = ins.start; hardware = hardware_with outs ins has_firmware is_fixed }
 
 -- as it shows them
 abbrev pub areas_shown : Shown → Areas
-areas_shown s = areas_with (out_used (used_for 3 s) (used_for 4 s)) (in_used (used_for 3 s) (used_for 4 s)) s.has_firmware
+areas_shown s = areas_with (out_used (used_for 3 s) (used_for 4 s)) (in_used (used_for 3 s) (used_for 4 s)) s.has_firmware (is_fixed s)
 
 -- where they are, by the usual managers: of a slave whose own a table can't say
 abbrev pub usual_areas : Areas → Areas
-usual_areas a = areas_with (manager_at a.out_start 2 0x24) (manager_at a.in_start 3 0x20) true
+usual_areas a = areas_with (manager_at a.out_start 2 0x24) (manager_at a.in_start 3 0x20) true a.hardware.is_fixed
 
 -- a table can say it: two different managers of the first four, in the modes of their directions; a mailbox has the first two, and firmware
 abbrev pub is_hardware : Option Mailbox → Hardware → Bool
@@ -141,10 +153,11 @@ joined ps qs = map (λ (p : Pdo). unwrap_or (pdo_at qs p.index) p) ps ++ filter 
 abbrev pub exchanged_first : List Pdo → List Pdo → List Pdo
 exchanged_first ps qs = qs ++ filter (λ (p : Pdo). not (has_index qs p.index)) ps
 
--- all PDOs in the order of the SII; if they are more than a table takes, those that are exchanged come first
-abbrev pub merged : List Pdo → Option (List Pdo) → List Pdo
-merged ps None = ps
-merged ps (Some qs) = if nat_le (length (joined ps qs)) 16 then joined ps qs else exchanged_first ps qs
+-- All PDOs in the order of the SII; if they are more than a table takes, those that are exchanged come first. If the assignment is fixed,
+-- the slave exchanges no others.
+abbrev pub merged : (fixed : Bool) → List Pdo → Option (List Pdo) → List Pdo
+merged fixed ps None = ps
+merged fixed ps (Some qs) = if fixed then qs else (if nat_le (length (joined ps qs)) 16 then joined ps qs else exchanged_first ps qs)
 
 -- a table takes a PDO: it is within the limits, and fewer than 16 others, each with another index, stand before it
 abbrev pub is_entry : Entry → Bool
@@ -173,19 +186,12 @@ assigned_of first ps (Some qs) = filter (has_index ps) (indices (kept first qs))
 
 -- TxPDOs (category 50) are inputs, RxPDOs (51) outputs. If CoE doesn't say which are exchanged, they are those that are as delivered.
 abbrev pub all_outputs : Shown → List Pdo
-all_outputs s = merged (pdos_in (is_some s.outputs) (words_of 51 s)) s.outputs
+all_outputs s = merged (is_fixed s) (pdos_in (is_some s.outputs) (words_of 51 s)) s.outputs
 
 abbrev pub all_inputs : Shown → List Pdo
-all_inputs s = merged (pdos_in (is_some s.inputs) (words_of 50 s)) s.inputs
+all_inputs s = merged (is_fixed s) (pdos_in (is_some s.inputs) (words_of 50 s)) s.inputs
 
 -- ---- the type
-
--- the general category: byte 11, bit 1 says that it takes no part in LRW; byte 5, bit 2 says that its PDO assignment can be written
-abbrev pub has_lrw : Shown → Bool
-has_lrw s = not (bit_at (byte_in (words_of 30 s) 11) 1 == 1)
-
-abbrev pub is_fixed : Shown → Bool
-is_fixed s = is_some (category_found 30 s.categories) && not (bit_at (byte_in (words_of 30 s) 5) 2 == 1)
 
 abbrev pub kind_of : Shown → SlaveKind
 kind_of s = record {
@@ -198,10 +204,10 @@ kind_of s = record {
   lrw = has_lrw s;
   face = None;
   hardware = Some (areas_of s).hardware;
+  init = [];
 }
 
--- The first thing that a table can't say of a slave: its mailbox, its sync managers, PDOs that were left out, or that its assignment can't
--- be written.
+-- the first thing that a table can't say of a slave: its mailbox, its sync managers, or PDOs that were left out
 abbrev pub lacks : ℕ → List Pdo → Bool
 lacks first ps = nat_lt (length (kept first ps)) (length ps)
 
@@ -210,8 +216,7 @@ unsaid_of s =
     if not (s.mailbox.place.receive_size == 0) && is_none (usable s.mailbox) then Some unsaid.Mailbox
     else (if not (is_hardware (usable s.mailbox) (areas_shown s).hardware) then Some unsaid.Managers
     else (if lacks first_output_index (all_outputs s) then Some unsaid.Outputs
-    else (if lacks first_input_index (all_inputs s) then Some unsaid.Inputs
-    else (if is_some (usable s.mailbox) && is_fixed s then Some unsaid.Assignment else None))))
+    else (if lacks first_input_index (all_inputs s) then Some unsaid.Inputs else None)))
 
 -- what is found of a slave
 pub record IsFound (s : Shown) (f : Found) : Type 0 where

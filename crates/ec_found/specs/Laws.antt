@@ -1,5 +1,5 @@
 -- The slaves of a table are found as its types.
-use Rattle.std.specs.Prelude.{◌≡◌, ◌==◌, ℕ, zero, suc, List, ◌++◌, ◌∷◌, All, Contains, Bool, false, true, if◌then◌else◌, Some, None}
+use Rattle.std.specs.Prelude.{◌≡◌, ◌==◌, ℕ, zero, suc, List, [], ◌++◌, ◌∷◌, All, Contains, Bool, false, true, if◌then◌else◌, Some, None}
 use Rattle.std.specs.Option.{ForSome}
 use Rattle.ec_device.specs.declared.slave_type.Face.{Face}
 use Rattle.ec_device.specs.declared.slave_type.Mailbox.{Mailbox}
@@ -12,11 +12,23 @@ use Rattle.ec_scan.specs.declared.shown.Shown.{Shown}
 use Rattle.ec_scan.specs.Showing.{IsUsable}
 use Rattle.ec_found.specs.Founds.{kind_of, unsaid_of}
 
--- a type as a table with `hardware` has it: the usual managers, firmware and four FMMUs
+-- A type as a table with `hardware` has it: the usual managers, firmware, an assignment that can be written, and four FMMUs. Parameters
+-- aren't shown; a table without `hardware` has none.
 abbrev pub as_hardware : SlaveKind → SlaveKind
 as_hardware k = record k {
   face = None;
-  hardware = Some (record { out_manager = usual_outputs; in_manager = usual_inputs; has_pins = false; has_firmware = true; fmmus = 4; any_revision = false });
+  hardware = Some (record {
+    out_manager = usual_outputs;
+    in_manager = usual_inputs;
+    has_pins = false;
+    has_firmware = true;
+    is_fixed = false;
+    slow = 0;
+    has_emergency = false;
+    fmmus = 4;
+    any_revision = false;
+  });
+  init = [];
 }
 
 -- words reach the end mark: first so many are passed over

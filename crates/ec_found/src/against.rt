@@ -72,7 +72,7 @@ pub fn differs(
 fn started<'a>(kind: &SlaveType, pdos: &[Pdo], assigned: &'a [u16], found: &'a [u16]) -> &'a [u16]
     ensures { result.now ≡ started kind.now pdos.now assigned.now found.now }
 {
-    if kind.mailbox().is_some() && !pdos.is_empty() {
+    if kind.is_assignable() && !pdos.is_empty() {
         assigned
     } else {
         found
@@ -164,7 +164,13 @@ pub fn differences_text(
             Some(one) => {
                 let kind = table.kind_of(alloc, place)?;
                 let differences = differs(alloc, &kind, row, one)?;
-                write_differences(&mut text, place, row, &kind, one, differences)?;
+                let pair = Pair {
+                    place,
+                    row,
+                    kind: &kind,
+                    found: one,
+                };
+                pair.write(&mut text, differences)?;
             }
             None => writeln!(text, "slave {place} {}: missing", row.name.as_str())?,
         }
@@ -177,41 +183,129 @@ pub fn differences_text(
     Ok(text)
 }
 
-/// Adds the lines of one slave.
-fn write_differences(
-    text: &mut String,
+/// A slave of a table, and the one that was found in its place.
+#[derive(Clone, Copy)]
+struct Pair<'a> {
     place: usize,
-    row: &SlaveRow,
-    kind: &SlaveType,
-    found: &Found,
-    differences: Differences,
-) -> Result<(), AllocError> {
-    let name = row.name.as_str();
-    if differences.device {
-        write!(text, "slave {place} {name}: device ")?;
-        write_device(text, found.kind.device())?;
-        text.push_str(", table ")?;
-        write_device(text, kind.device())?;
-        text.push_str("\n")?;
+    row: &'a SlaveRow,
+    kind: &'a SlaveType,
+    found: &'a Found,
+}
+
+impl Pair<'_> {
+    /// Adds a line for each thing that differs.
+    fn write(&self, text: &mut String, differences: Differences) -> Result<(), AllocError> {
+        let (seen, wanted) = (self.found.kind.device(), self.kind.device());
+        if differences.device {
+            self.begin(text)?;
+            text.push_str("device ")?;
+            write_device(text, seen)?;
+            text.push_str(", table ")?;
+            write_device(text, wanted)?;
+            text.push_str("\n")?;
+        }
+        if differences.revision {
+            self.begin(text)?;
+            let (seen, wanted) = (seen.revision, wanted.revision);
+            writeln!(text, "revision 0x{seen:08X}, table 0x{wanted:08X}")?;
+        }
+        if differences.serial {
+            self.begin(text)?;
+            let (seen, wanted) = (self.found.serial, self.row.serial);
+            writeln!(text, "serial {seen}, table {wanted}")?;
+        }
+        if differences.outputs {
+            self.write_pdos(text, self.outputs())?;
+        }
+        if differences.inputs {
+            self.write_pdos(text, self.inputs())?;
+        }
+        Ok(())
     }
-    if differences.revision {
-        let (seen, wanted) = (found.kind.device().revision, kind.device().revision);
-        writeln!(
-            text,
-            "slave {place} {name}: revision 0x{seen:08X}, table 0x{wanted:08X}"
-        )?;
+
+    /// Adds how each line of the slave begins.
+    fn begin(&self, text: &mut String) -> Result<(), AllocError> {
+        write!(text, "slave {} {}: ", self.place, self.row.name.as_str())
     }
-    if differences.serial {
-        let (seen, wanted) = (found.serial, row.serial);
-        writeln!(text, "slave {place} {name}: serial {seen}, table {wanted}")?;
+
+    fn outputs(&self) -> Compared<'_> {
+        let (wanted, assigned) = (self.kind.outputs(), self.row.outputs.as_slice());
+        Compared {
+            wanted,
+            assigned,
+            seen: self.found.kind.outputs(),
+            exchanged: started(self.kind, wanted, assigned, self.found.outputs.as_slice()),
+        }
     }
-    if differences.outputs {
-        writeln!(text, "slave {place} {name}: other outputs")?;
+
+    fn inputs(&self) -> Compared<'_> {
+        let (wanted, assigned) = (self.kind.inputs(), self.row.inputs.as_slice());
+        Compared {
+            wanted,
+            assigned,
+            seen: self.found.kind.inputs(),
+            exchanged: started(self.kind, wanted, assigned, self.found.inputs.as_slice()),
+        }
     }
-    if differences.inputs {
-        writeln!(text, "slave {place} {name}: other inputs")?;
+
+    /// Adds a line for each PDO in which a direction differs, or one if its PDOs have another order.
+    fn write_pdos(&self, text: &mut String, pdos: Compared<'_>) -> Result<(), AllocError> {
+        let before = text.len();
+        for index in pdos.assigned {
+            if let Some(what) = pdos.difference_in(*index) {
+                self.begin(text)?;
+                writeln!(text, "PDO 0x{index:04X} {what}")?;
+            }
+        }
+        self.write_others(text, pdos)?;
+        if text.len() == before {
+            self.begin(text)?;
+            text.push_str("PDOs in another order\n")?;
+        }
+        Ok(())
     }
-    Ok(())
+
+    /// Adds a line for each PDO that the table doesn't assign.
+    fn write_others(&self, text: &mut String, pdos: Compared<'_>) -> Result<(), AllocError> {
+        for index in pdos.exchanged {
+            if !pdos.assigned.contains(index) {
+                self.begin(text)?;
+                writeln!(text, "PDO 0x{index:04X} not in the table")?;
+            }
+        }
+        Ok(())
+    }
+}
+
+/// The PDOs of a direction: all of the table's type and of the slave that was found, the indices of those that the table assigns, and of
+/// those that the slave exchanges once it was started up.
+#[derive(Clone, Copy)]
+struct Compared<'a> {
+    wanted: &'a [Pdo],
+    seen: &'a [Pdo],
+    assigned: &'a [u16],
+    exchanged: &'a [u16],
+}
+
+impl Compared<'_> {
+    /// In which way a PDO that the table assigns differs.
+    fn difference_in(&self, index: u16) -> Option<&'static str> {
+        if !self.exchanged.contains(&index) {
+            return Some("missing");
+        }
+        match (find_pdo(self.wanted, index), find_pdo(self.seen, index)) {
+            (_, None) => Some("missing"),
+            (Some(wanted), Some(seen)) => {
+                let is_same = have_same_entries(wanted.entries.as_slice(), seen.entries.as_slice());
+                if is_same {
+                    None
+                } else {
+                    Some("has other entries")
+                }
+            }
+            (None, Some(_)) => None,
+        }
+    }
 }
 
 /// Adds vendor and product.

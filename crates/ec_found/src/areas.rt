@@ -1,10 +1,10 @@
 //! Where the process data of a slave lie, and what else a type for hardware says.
-ghost use Rattle.std.specs.Prelude.{◌≡◌, IsTrue};
+ghost use Rattle.std.specs.Prelude.{◌≡◌, IsTrue, is_some};
 ghost use Rattle.ec_device.specs.Hardware.{IsHardware};
 ghost use Rattle.ec_scan.specs.Showing.{usable};
-ghost use Rattle.ec_found.specs.Founds.{areas_of, areas_shown, hardware_with, in_used, is_hardware, manager_at, out_used, process_manager, unused, usual_areas};
+ghost use Rattle.ec_found.specs.Founds.{areas_of, areas_shown, hardware_with, in_used, is_fixed, is_hardware, manager_at, out_used, process_manager, unused, usual_areas};
 
-use crate::reading::{MANAGERS, UsedManager, manager_for, words_in};
+use crate::reading::{GENERAL, MANAGERS, UsedManager, byte_in, category_in, manager_for, words_in};
 use ec_device::{Hardware, LAST_MANAGER, MAX_FMMUS, Mailbox, PINS, PINS_BYTES, ProcessManager};
 use ec_scan::Shown;
 
@@ -12,6 +12,9 @@ use ec_scan::Shown;
 const OUTPUTS: u8 = 3;
 
 const INPUTS: u8 = 4;
+
+/// The bit of the CoE details that says that the PDO assignment can be written: bit 2 of byte 5 of the general category.
+const CAN_ASSIGN: u8 = 1 << 2;
 
 /// Where the process data of a slave begin, as the device has it, and its hardware.
 #[derive(Clone, Copy, Debug, PartialEq, Eq)]
@@ -23,7 +26,7 @@ pub(crate) struct Areas {
 
 impl Areas {
     /// Those of a slave: as it shows them, if a table can say that, else by the usual managers.
-    #[tactic(auto, using(crate::proofs::HardwareLimits::usual_limits))]
+    #[tactic(auto, using(crate::proofs::HardwareLimits::usual_limits, crate::proofs::HardwareLimits::fixed_has_mailbox))]
     pub(crate) fn of(shown: &Shown) -> Areas
         ensures value { result ≡ areas_of shown.now }
         ensures limits { IsHardware (usable shown.now.mailbox) result.hardware }
@@ -38,6 +41,7 @@ impl Areas {
     }
 
     /// Whether a table can say where a slave's process data lie.
+    #[tactic(auto, using(crate::proofs::HardwareLimits::fixed_has_mailbox))]
     pub(crate) fn are_said(shown: &Shown) -> bool
         ensures { result ≡ is_hardware (usable shown.now.mailbox) (areas_shown shown.now).hardware }
     {
@@ -55,7 +59,7 @@ impl Areas {
         Areas {
             out_start: outs.start,
             in_start: ins.start,
-            hardware: hardware_of(outs, ins, shown.has_firmware),
+            hardware: hardware_of(outs, ins, shown.has_firmware, is_fixed(shown)),
         }
     }
 
@@ -66,21 +70,24 @@ impl Areas {
         let outs = manager_at(self.out_start, 2, 0x24);
         let ins = manager_at(self.in_start, 3, 0x20);
         Areas {
-            hardware: hardware_of(outs, ins, true),
+            hardware: hardware_of(outs, ins, true, self.hardware.is_fixed),
             ..self
         }
     }
 }
 
 /// The hardware of a slave with these managers.
-fn hardware_of(outs: UsedManager, ins: UsedManager, has_firmware: bool) -> Hardware
-    ensures { result ≡ hardware_with outs ins has_firmware }
+fn hardware_of(outs: UsedManager, ins: UsedManager, has_firmware: bool, is_fixed: bool) -> Hardware
+    ensures { result ≡ hardware_with outs ins has_firmware is_fixed }
 {
     Hardware {
         out_manager: process_manager(outs),
         in_manager: process_manager(ins),
         has_pins: (PINS..PINS + PINS_BYTES).contains(&outs.start),
         has_firmware,
+        is_fixed,
+        slow: 0,
+        has_emergency: false,
         fmmus: MAX_FMMUS,
         any_revision: false,
     }
@@ -139,7 +146,9 @@ fn in_used(outputs: Option<UsedManager>, inputs: Option<UsedManager>) -> UsedMan
 /// their directions. Beside a mailbox they leave it the first two, and there is firmware.
 #[tactic(auto, using(crate::proofs::HardwareLimits::limits_of))]
 fn is_hardware(mailbox: Option<Mailbox>, hardware: &Hardware) -> bool
-    requires { hardware.now.fmmus ≡ 4 }
+    requires fmmus { hardware.now.fmmus ≡ 4 }
+    requires slow { hardware.now.slow ≡ 0 }
+    requires fixed { IsTrue hardware.now.is_fixed → IsTrue (is_some mailbox) }
     ensures value { result ≡ is_hardware mailbox hardware.now }
     ensures limits { IsTrue result → IsHardware mailbox hardware.now }
 {
@@ -153,4 +162,18 @@ fn is_hardware(mailbox: Option<Mailbox>, hardware: &Hardware) -> bool
     let leave_room = outs.number >= 2 && ins.number >= 2 && hardware.has_firmware;
     let are_apart = outs.number != ins.number;
     are_known && are_apart && have_modes && (mailbox.is_none() || leave_room)
+}
+
+/// Whether a slave that takes CoE says that its PDO assignment can't be written.
+#[tactic(auto, using(crate::proofs::Flags::assign_bit))]
+pub(crate) fn is_fixed(shown: &Shown) -> bool
+    ensures { result ≡ is_fixed shown.now }
+{
+    if shown.mailbox.usable().is_none() {
+        return false;
+    }
+    match category_in(shown.categories.as_slice(), GENERAL) {
+        None => false,
+        Some(words) => byte_in(words, 5) & CAN_ASSIGN == 0,
+    }
 }

@@ -4,9 +4,9 @@ ghost use Rattle.std.specs.Option.{option_map};
 ghost use Rattle.ec_device.specs.Types.{ArePdos, first_input_index, first_output_index};
 ghost use Rattle.ec_found.specs.Founds.{IsFound, all_inputs, all_outputs, has_lrw, is_fixed, kept, kind_of, lacks, merged, pdos_in, unsaid_of, words_of};
 
-use crate::areas::Areas;
+use crate::areas::{Areas, is_fixed};
 use crate::mapped::{assigned_of, kept, merged};
-use crate::reading::{GENERAL, INPUT_PDOS, OUTPUT_PDOS, byte_in, category_in, pdos_in, words_in};
+use crate::reading::{GENERAL, INPUT_PDOS, OUTPUT_PDOS, byte_in, pdos_in, words_in};
 use ec_device::{FIRST_INPUT_INDEX, FIRST_OUTPUT_INDEX, Pdo, SlaveType};
 use ec_listed::Listed;
 use ec_scan::Shown;
@@ -23,8 +23,6 @@ pub enum Unsaid {
     Outputs,
     /// An input PDO.
     Inputs,
-    /// That its PDO assignment can't be written.
-    Assignment,
 }
 
 /// A slave as it was found, in the words of a table.
@@ -42,8 +40,6 @@ pub struct Found {
     pub unsaid: Option<Unsaid>,
 }
 
-/// The bit of the CoE details that says that the PDO assignment can be written: bit 2 of byte 5 of the general category.
-const CAN_ASSIGN: u8 = 1 << 2;
 /// The bit of the flags of a slave that takes no part in LRW: bit 1 of byte 11.
 const NO_LRW: u8 = 1 << 1;
 
@@ -84,7 +80,7 @@ fn said_of(
         lent(&shown.inputs),
     )?;
     Ok(Found {
-        kind: kind_of(shown, kept_outputs, kept_inputs),
+        kind: kind_of(alloc, shown, kept_outputs, kept_inputs),
         serial: shown.identity.serial,
         outputs: assigned_outputs,
         inputs: assigned_inputs,
@@ -99,11 +95,11 @@ fn all_pdos(
     category: u16,
     exchanged: &Option<Listed<Pdo>>,
 ) -> Result<Listed<Pdo>, AllocError>
-    ensures { IfOk result (λ ps. ps ≡ merged (pdos_in (is_some exchanged.now) (words_of category shown.now)) exchanged.now) }
+    ensures { IfOk result (λ ps. ps ≡ merged (is_fixed shown.now) (pdos_in (is_some exchanged.now) (words_of category shown.now)) exchanged.now) }
 {
     let words = words_in(shown.categories.as_slice(), category);
     let read = pdos_in(alloc, exchanged.is_some(), words)?;
-    merged(alloc, read.as_slice(), lent(exchanged))
+    merged(alloc, is_fixed(shown), read.as_slice(), lent(exchanged))
 }
 
 /// The PDOs that are exchanged by CoE, if it says so.
@@ -117,7 +113,7 @@ fn lent(exchanged: &Option<Listed<Pdo>>) -> Option<&[Pdo]>
 }
 
 /// The type of a slave with these PDOs.
-fn kind_of(shown: &Shown, outputs: Listed<Pdo>, inputs: Listed<Pdo>) -> SlaveType
+fn kind_of(alloc: Global, shown: &Shown, outputs: Listed<Pdo>, inputs: Listed<Pdo>) -> SlaveType
     requires outputs { outputs ≡ kept first_output_index (all_outputs shown.now) }
     requires inputs { inputs ≡ kept first_input_index (all_inputs shown.now) }
     requires few_outputs { ArePdos first_output_index outputs }
@@ -126,6 +122,7 @@ fn kind_of(shown: &Shown, outputs: Listed<Pdo>, inputs: Listed<Pdo>) -> SlaveTyp
 {
     let areas = Areas::of(shown);
     let mut kind = SlaveType::new(
+        alloc,
         shown.identity.device(),
         shown.mailbox.usable(),
         areas.hardware.other_name(areas.out_start),
@@ -144,8 +141,7 @@ fn unsaid_of(shown: &Shown, lacks_outputs: bool, lacks_inputs: bool) -> Option<U
     requires inputs { lacks_inputs ≡ lacks first_input_index (all_inputs shown.now) }
     ensures { result ≡ unsaid_of shown.now }
 {
-    let has_mailbox = shown.mailbox.usable().is_some();
-    if shown.mailbox.place.receive_size > 0 && !has_mailbox {
+    if shown.mailbox.place.receive_size > 0 && shown.mailbox.usable().is_none() {
         Some(Unsaid::Mailbox)
     } else if !Areas::are_said(shown) {
         Some(Unsaid::Managers)
@@ -153,8 +149,6 @@ fn unsaid_of(shown: &Shown, lacks_outputs: bool, lacks_inputs: bool) -> Option<U
         Some(Unsaid::Outputs)
     } else if lacks_inputs {
         Some(Unsaid::Inputs)
-    } else if has_mailbox && is_fixed(shown) {
-        Some(Unsaid::Assignment)
     } else {
         None
     }
@@ -167,15 +161,4 @@ fn has_lrw(shown: &Shown) -> bool
 {
     let words = words_in(shown.categories.as_slice(), GENERAL);
     byte_in(words, 11) & NO_LRW == 0
-}
-
-/// Whether a slave says that its PDO assignment can't be written.
-#[tactic(auto, using(crate::proofs::Flags::assign_bit))]
-fn is_fixed(shown: &Shown) -> bool
-    ensures { result ≡ is_fixed shown.now }
-{
-    match category_in(shown.categories.as_slice(), GENERAL) {
-        None => false,
-        Some(words) => byte_in(words, 5) & CAN_ASSIGN == 0,
-    }
 }

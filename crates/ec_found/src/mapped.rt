@@ -10,16 +10,19 @@ use ec_listed::Listed;
 use std::alloc::{AllocError, Global};
 
 /// The PDOs that a slave has: where CoE has another mapping than the SII, it decides, and what it has besides stands behind. If they
-/// are more than a table takes, those that are exchanged come first. `exchanged` are those that CoE says are exchanged, if it says so.
+/// are more than a table takes, those that are exchanged come first. `exchanged` are those that CoE says are exchanged, if it says so;
+/// a slave whose assignment is fixed exchanges no others.
 pub(crate) fn merged(
     alloc: Global,
+    is_fixed: bool,
     shown: &[Pdo],
     exchanged: Option<&[Pdo]>,
 ) -> Result<Listed<Pdo>, AllocError>
-    ensures { IfOk result (λ ps. ps ≡ merged shown.now (option_map (λ qs. qs.now) exchanged.entry)) }
+    ensures { IfOk result (λ ps. ps ≡ merged is_fixed shown.now (option_map (λ qs. qs.now) exchanged.entry)) }
 {
     match exchanged {
         None => copied_pdos(alloc, shown),
+        Some(said) if is_fixed => copied_pdos(alloc, said),
         Some(said) => {
             let found = joined(alloc, shown, said)?;
             if found.len() <= MAX_PDOS {

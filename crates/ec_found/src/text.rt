@@ -282,6 +282,9 @@ fn write_areas(text: &mut String, kind: &SlaveType) -> Result<(), AllocError> {
     if !hardware.has_firmware {
         writeln!(text, "firmware = false")?;
     }
+    if hardware.is_fixed {
+        writeln!(text, "fixed = true")?;
+    }
     Ok(())
 }
 
@@ -420,9 +423,8 @@ fn comment_on(unsaid: Unsaid) -> &'static str {
         Unsaid::Managers =>
             "its sync managers are left out: `out_manager` and `in_manager` are two of 0 to 3 in the usual modes; beside a mailbox 2 and 3",
         Unsaid::Outputs =>
-            "outputs of it are left out: `rxpdo` takes 16 PDOs of 0x1600 to 0x17FF, once each, of 64 entries of up to 64 bits",
+            "outputs of it are left out: `rxpdo` takes up to 16 PDOs, 0x1600 to 0x17FF once each, with up to 64 entries of up to 64 bits",
         Unsaid::Inputs =>
-            "inputs of it are left out: `txpdo` takes 16 PDOs of 0x1A00 to 0x1BFF, once each, of 64 entries of up to 64 bits",
-        Unsaid::Assignment => "it says that its PDO assignment can't be written",
+            "inputs of it are left out: `txpdo` takes up to 16 PDOs, 0x1A00 to 0x1BFF once each, with up to 64 entries of up to 64 bits",
     }
 }

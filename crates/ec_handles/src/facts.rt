@@ -139,7 +139,8 @@ fn failure_result(error: StartError, room: &mut [u64]) -> Done
 
 /// The words for a failure.
 fn words_for(held: &HeldMaster, error: StartError) -> ArrayString<WORDS> {
-    let fault = StartFault::of_plan(held.session.table(), held.session.plan(), error);
+    let session = &held.session;
+    let fault = StartFault::of_startup(session.table(), session.plan(), session.startup(), error);
     let mut words = ArrayString::new();
     let _ = write!(words, "{fault}");
     words

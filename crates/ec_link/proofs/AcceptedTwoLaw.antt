@@ -7,6 +7,7 @@ use Rattle.ec_device.specs.declared.slave_type.Entry.{Entry}
 use Rattle.ec_device.specs.declared.slave_type.Pdo.{Pdo}
 use Rattle.ec_device.specs.declared.slave_type.Mailbox.{Mailbox}
 use Rattle.ec_device.specs.declared.hardware.Hardware.{Hardware}
+use Rattle.ec_device.specs.Hardware.{is_assignable}
 use Rattle.ec_device.specs.Types.{IsEntry, IsPdo, ArePdos, IsMailbox, first_output_index, first_input_index}
 use Rattle.ec_table.specs.declared.rows.Version.TheVariants.{One, Two}
 use Rattle.ec_table.specs.declared.rows.Direction.TheVariants.{Out, In}
@@ -68,6 +69,10 @@ entries_named : (name product : ℕ) (m : Option Mailbox) (lrw : Bool) (a b : En
 entries_named name product m lrw a b x y Out = first (λ (q : Pdo). All table.HasName q.entries) _ [] (first table.HasName a [] x (none table.HasName)) (none (λ (q : Pdo). All table.HasName q.entries))
 entries_named name product m lrw a b x y In = first (λ (q : Pdo). All table.HasName q.entries) _ [] (first table.HasName b [] y (none table.HasName)) (none (λ (q : Pdo). All table.HasName q.entries))
 
+-- nothing is downloaded
+no_downloads : (m : Option Mailbox) → table.AreDownloads m []
+no_downloads m = record { few = omega arith; each = none table.IsDownload; mailbox = λ e. refl }
+
 type_sound : (name product : ℕ) (m : Option Mailbox) (lrw : Bool) (a b : Entry) → table.IsName (name ∷ []) → product ≤ 4294967295 → ForSome m IsMailbox → ForSome m table.HasMailboxStarts
     → IsEntry a → IsEntry b → table.HasName a → table.HasName b → table.IsType (two_way name product m lrw a b)
 type_sound name product m lrw a b is few boxes starts x y n k = record {
@@ -79,6 +84,7 @@ type_sound name product m lrw a b is few boxes starts x y n k = record {
   in_start = omega arith;
   entries = entries_named name product m lrw a b n k;
   hardware = λ h e. absurd (none_hardware h e);
+  init = no_downloads m;
 }
 
 no_box : (m : Mailbox) → None ≡ Some m → ⊥
@@ -112,19 +118,20 @@ Other x y = x ≢ y
 alone : (index : ℕ) → AllPairs Other (index ∷ [])
 alone index = AllPairs-cons Other index [] (none (Other index)) (no_pairs Other)
 
-assigned : (name product : ℕ) (m : Option Mailbox) (lrw : Bool) (a b : Entry) (own place unit : ℕ) (d : Direction) → table.IsAssignment m (pdos_toward d (two_way name product m lrw a b)) (assigned_toward d (slave_in own place unit))
+assigned : (name product : ℕ) (m : Option Mailbox) (lrw : Bool) (a b : Entry) (own place unit : ℕ) (d : Direction) → table.IsAssignment (is_assignable m None) (pdos_toward d (two_way name product m lrw a b)) (assigned_toward d (slave_in own place unit))
 assigned name product m lrw a b own place unit Out = record { known = one_known 0x1600; once = alone 0x1600; fixed = λ e. refl }
 assigned name product m lrw a b own place unit In = record { known = one_known 0x1A00; once = alone 0x1A00; fixed = λ e. refl }
 
-slave_sound : (own place unit : ℕ) (type : TypeRow) → table.IsName (own ∷ []) → place < 2 → slice_get (split_type ∷ boxed_type ∷ []) place ≡ Some type → ((d : Direction) → table.IsAssignment type.mailbox (pdos_toward d type) (assigned_toward d (slave_in own place unit)))
+slave_sound : (own place unit : ℕ) (type : TypeRow) → table.IsName (own ∷ []) → place < 2 → slice_get (split_type ∷ boxed_type ∷ []) place ≡ Some type → ((d : Direction) → table.IsAssignment (is_assignable type.mailbox type.hardware) (pdos_toward d type) (assigned_toward d (slave_in own place unit)))
     → unit ≤ 63 → table.IsSlave Two (split_type ∷ boxed_type ∷ []) (slave_in own place unit)
 slave_sound own place unit type is few at fits low = record {
   name = is;
   known = few;
-  assigned = λ u d e. subst (λ (x : TypeRow). table.IsAssignment x.mailbox (pdos_toward d x) (assigned_toward d (slave_in own place unit))) (same_type type u (cc)) (fits d);
+  assigned = λ u d e. subst (λ (x : TypeRow). table.IsAssignment (is_assignable x.mailbox x.hardware) (pdos_toward d x) (assigned_toward d (slave_in own place unit))) (same_type type u (cc)) (fits d);
   serial = omega arith;
   unit = low;
   one_unit = λ e. absurd (let z : Two ≡ One = e in cc);
+  init = λ u e. no_downloads u.mailbox;
 }
 
 -- ---- the table
@@ -202,6 +209,8 @@ sound = record {
       (first L (link_to 3 1 0x6010 16) [] (link_sound 3 1 0x6010 16 (omega arith) (omega arith) (omega arith) (omega arith) (omega arith) (omega arith)) (none L))));
   format = record {
     types = first (λ (t : TypeRow). is_some t.hardware ≡ false) split_type (boxed_type ∷ []) refl (first (λ (t : TypeRow). is_some t.hardware ≡ false) boxed_type [] refl (none (λ (t : TypeRow). is_some t.hardware ≡ false)));
+    type_init = λ e. let N : TypeRow → Type 0 = λ t. t.init ≡ [] in first N split_type (boxed_type ∷ []) refl (first N boxed_type [] refl (none N));
+    slave_init = λ e. let N : SlaveRow → Type 0 = λ s. s.init ≡ [] in first N (slave_in 115 0 0) (slave_in 116 1 1 ∷ []) refl (first N (slave_in 116 1 1) [] refl (none N));
     variables = λ e. let S : VariableRow → Type 0 = λ w. w.signed ≡ false in first S (variable_of 97 Out 4) rest1 refl (first S (variable_of 98 In 4) rest2 refl (first S (variable_of 99 Out 12) rest3 refl (first S (variable_of 100 In 16) [] refl (none S))));
   };
 }

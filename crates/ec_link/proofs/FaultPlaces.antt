@@ -25,14 +25,14 @@ use Rattle.ec_table.specs.Objects.{entries_of}
 use Rattle.ec_table.specs.Sound as table
 use Rattle.ec_link.specs.LinkRuns.{is_out}
 use Rattle.ec_link.specs.Sizes.{hardware_of, mapped_bits}
-use Rattle.ec_link.specs.SlavePlan.{receive_manager, send_manager, process_manager, managers_of, manager_in_place, meet, some_meet, leaves_ram, ends_past_pins, begins_at_pins, leaves_pins}
+use Rattle.ec_link.specs.SlavePlan.{IsOfBuffer, receive_manager, send_manager, process_manager, managers_of, manager_in_place, meet, some_meet, leaves_ram, ends_past_pins, begins_at_pins, leaves_pins}
 use Rattle.ec_link.specs.Faults.{in_either, entry_twice, too_many_bits, managers_at, areas_overlap, outside_ram, unit_of_link, differ, units_of_variable, split_variable}
 use Rattle.ec_link.specs.Entries.{names_twice}
 use Rattle.ec_link.specs.FaultLaw.{JoinsUnit}
 use Rattle.ec_link.proofs.FaultSteps.{Tells}
 use Rattle.ec_link.proofs.FaultNames.{any_at, twice_found, twice_from}
 use Rattle.ec_link.proofs.Basics.{or_false}
-use Rattle.ec_link.proofs.ManagersApart.{IsOfBuffer, of_type_outputs, of_type_inputs, three_long}
+use Rattle.ec_link.proofs.ManagersApart.{of_type_outputs, of_type_inputs, three_long}
 use Rattle.ec_link.proofs.SlavesSound.{has_type}
 
 -- ---- of what a slave assigns
@@ -410,7 +410,7 @@ joins_of : (t : Contents) → table.IsSound t → (v u : ℕ) → UnitAt t v t.l
 joins_of t sound v u a =
     let lt = slice_get_within t.links a.place a.link a.there in
     let link : table.IsLink t.slaves t.variables a.link = subst (table.IsLink t.slaves t.variables) (get_or_from_slice_get t.links a.place a.link a.link a.there) (sound.links a.place a.link lt) in
-    let row : SlaveRow = get_or t.slaves a.link.slave (record { name = []; type_index = 0; outputs = []; inputs = []; serial = 0; unit = 0 }) in
+    let row : SlaveRow = get_or t.slaves a.link.slave (record { name = []; type_index = 0; outputs = []; inputs = []; serial = 0; unit = 0; init = [] }) in
     let at : slice_get t.slaves a.link.slave ≡ Some row = slice_get_read t.slaves (length t.slaves) a.link.slave row refl link.slave (get_or_default t.slaves a.link.slave _ row link.slave) in
     let unit : unit_of_link t a.link ≡ row.unit = rw at refl in
     record { place = a.place; link = a.link; slave = row; there = a.there; variable_is = a.variable_is; slave_is = at; unit_is = sym unit ∙ a.unit_is }

@@ -5,10 +5,10 @@ use Rattle.std.specs.Option.{ForSome}
 use Rattle.std.proofs.lemmas.Bool.{cases_lt}
 use Rattle.std.proofs.lemmas.Option.{slice_get_within, get_or_from_slice_get}
 use Rattle.ec_device.specs.declared.slave_type.Pdo.{Pdo}
-use Rattle.ec_device.specs.declared.slave_type.Mailbox.{Mailbox}
 use Rattle.ec_device.specs.declared.slave_type.Face.{Face}
 use Rattle.ec_device.specs.declared.hardware.Hardware.{Hardware}
-use Rattle.ec_device.specs.Hardware.{IsHardware}
+use Rattle.ec_device.specs.Hardware.{IsHardware, is_assignable}
+use Rattle.ec_device.specs.Parameters.{AreParameters}
 use Rattle.ec_device.specs.Types.{SlaveKind, IsWithinLimits, plain_kind}
 use Rattle.ec_device.specs.Objects.{bits_of, bits_assigned, assigned_entries}
 use Rattle.ec_device.proofs.Objects.{bits_assigned_law}
@@ -18,8 +18,10 @@ use Rattle.ec_table.specs.declared.rows.SlaveRow.{SlaveRow}
 use Rattle.ec_table.specs.declared.rows.TypeRow.{TypeRow}
 use Rattle.ec_table.specs.Contents.{Contents, pdos_toward, assigned_toward}
 use Rattle.ec_table.specs.Objects.{type_of, face_of, kind_at, entries_of}
+use Rattle.ec_table.specs.Objects as objects
 use Rattle.ec_table.specs.Pdos.{indices_of}
 use Rattle.ec_table.specs.Sound as table
+use Rattle.ec_table.proofs.InitJoined.{downloads_fit}
 use Rattle.ec_link.specs.declared.settings.SlavePlan.{SlavePlan}
 use Rattle.ec_link.specs.declared.settings.Share.{Share}
 use Rattle.ec_link.specs.Faults.{compile_fault}
@@ -71,8 +73,8 @@ length-indices : (ps : List Pdo) → length (indices_of ps) ≡ length ps
 length-indices [] = refl
 length-indices (p ∷ ps) = ap (λ (n : ℕ). suc n) (length-indices ps)
 
-few-assigned : (mailbox : Option Mailbox) (ps : List Pdo) (is : List ℕ) → table.IsAssignment mailbox ps is → length is ≤ length ps
-few-assigned mailbox ps is a = omega (arith, few-once is (indices_of ps) (λ i j e lt b. a.once i j e lt b) (λ k e l. a.known k e l), length-indices ps)
+few-assigned : (assignable : Bool) (ps : List Pdo) (is : List ℕ) → table.IsAssignment assignable ps is → length is ≤ length ps
+few-assigned assignable ps is a = omega (arith, few-once is (indices_of ps) (λ i j e lt b. a.once i j e lt b) (λ k e l. a.known k e l), length-indices ps)
 
 -- ---- a slave
 
@@ -93,6 +95,12 @@ entries-told t s r k d a b = rw (a, b) refl
 type_there : (t : Contents) (s : ℕ) (r : SlaveRow) (k : TypeRow) → slice_get t.slaves s ≡ Some r → type_of t s ≡ Some k → slice_get t.types r.type_index ≡ Some k
 type_there t s r k is type = ap (λ (o : Option SlaveRow). option_and_then (λ (q : SlaveRow). slice_get t.types q.type_index) o) (sym is) ∙ type
 
+-- it is of the table's format
+type_kept : (t : Contents) → table.IsSound t → (s : ℕ) (r : SlaveRow) (k : TypeRow) → slice_get t.slaves s ≡ Some r → type_of t s ≡ Some k → is_some k.hardware ≡ t.hardware
+type_kept t sound s r k is type =
+    let place = type_there t s r k is type in
+    subst (λ (y : TypeRow). is_some y.hardware ≡ t.hardware) (get_or_from_slice_get t.types r.type_index k k place) (sound.format.types r.type_index k (slice_get_within t.types r.type_index k place))
+
 module _ (t : Contents) (sound : table.IsSound t) (free : compile_fault t ≡ None) where
   own : IsSound t (plan_of t)
   own = plan_sound t sound free
@@ -105,11 +113,12 @@ module _ (t : Contents) (sound : table.IsSound t) (free : compile_fault t ≡ No
       let x : SlavePlan = slave_at (plan_of t) s in
       let row : table.IsSlave t.version t.types r = subst (table.IsSlave t.version t.types) (get_or_from_slice_get t.slaves s r r is) (sound.slaves.each s r lt) in
       let kind : x.kind ≡ kind_at t s k = set.kind ∙ kind_told t s k type in
-      let outputs : table.IsAssignment x.kind.mailbox x.kind.outputs x.outputs
-      = subst (λ (y : SlaveKind). table.IsAssignment y.mailbox y.outputs x.outputs) (sym kind) (subst (λ (xs : List ℕ). table.IsAssignment k.mailbox k.process.outputs xs) (sym set.outputs) (row.assigned k Out place)) in
-      let inputs : table.IsAssignment x.kind.mailbox x.kind.inputs x.inputs
-      = subst (λ (y : SlaveKind). table.IsAssignment y.mailbox y.inputs x.inputs) (sym kind) (subst (λ (xs : List ℕ). table.IsAssignment k.mailbox k.process.inputs xs) (sym set.inputs) (row.assigned k In place)) in
+      let outputs : table.IsAssignment (is_assignable x.kind.mailbox x.kind.hardware) x.kind.outputs x.outputs
+      = subst (λ (y : SlaveKind). table.IsAssignment (is_assignable y.mailbox y.hardware) y.outputs x.outputs) (sym kind) (subst (λ (xs : List ℕ). table.IsAssignment (is_assignable k.mailbox k.hardware) k.process.outputs xs) (sym set.outputs) (row.assigned k Out place)) in
+      let inputs : table.IsAssignment (is_assignable x.kind.mailbox x.kind.hardware) x.kind.inputs x.inputs
+      = subst (λ (y : SlaveKind). table.IsAssignment (is_assignable y.mailbox y.hardware) y.inputs x.inputs) (sym kind) (subst (λ (xs : List ℕ). table.IsAssignment (is_assignable k.mailbox k.hardware) k.process.inputs xs) (sym set.inputs) (row.assigned k In place)) in
       let hardware : x.kind.hardware ≡ k.hardware = ap (λ (y : SlaveKind). y.hardware) kind in
+      let made : objects.kind_of t s ≡ Some (kind_at t s k) = ap (λ (o : Option TypeRow). option_map (kind_at t s) o) type in
       let out_bits : x.bits.outs ≡ bits_assigned k.process.outputs r.outputs
       = ap (λ (b : EntryBits). b.outs) (bits_are t s lt) ∙ (ap bits_of (entries-told t s r k Out is place) ∙ sym (bits_assigned_law k.process.outputs r.outputs)) in
       let in_bits : x.bits.ins ≡ bits_assigned k.process.inputs r.inputs
@@ -126,8 +135,8 @@ module _ (t : Contents) (sound : table.IsSound t) (free : compile_fault t ≡ No
         in_names = subst (λ (y : SlaveKind). All (λ (q : Pdo). All table.HasName q.entries) y.inputs) (sym kind) (good.entries In);
         outputs = outputs;
         inputs = inputs;
-        few_outputs = few-assigned x.kind.mailbox x.kind.outputs x.outputs outputs;
-        few_inputs = few-assigned x.kind.mailbox x.kind.inputs x.inputs inputs;
+        few_outputs = few-assigned (is_assignable x.kind.mailbox x.kind.hardware) x.kind.outputs x.outputs outputs;
+        few_inputs = few-assigned (is_assignable x.kind.mailbox x.kind.hardware) x.kind.inputs x.inputs inputs;
         out_bits = own_out_bits;
         in_bits = own_in_bits;
         outs = set.outs ∙ ap (mapped_bits x.kind.hardware) (sym set.out_bits ∙ own_out_bits);
@@ -138,6 +147,8 @@ module _ (t : Contents) (sound : table.IsSound t) (free : compile_fault t ≡ No
             (made_fmmus t (part_plans t) (layout (table_sizes t)).seats s (get_or t.slaves s no_row));
         hardware = subst (λ (y : SlaveKind). ForSome y.hardware (IsHardware y.mailbox)) (sym kind) (λ h there. (good.hardware h there).limits);
         faceless = subst (λ (y : SlaveKind). is_some y.hardware ≡ true → y.face ≡ None) (sym kind) (no-face t.full k.hardware (face_of t s k));
+        parameters = subst (λ (y : SlaveKind). AreParameters y.mailbox y.init) (sym kind) (downloads_fit.limits t s (kind_at t s k) sound made);
+        plain = λ e. ap (λ (y : SlaveKind). y.init) kind ∙ downloads_fit.none t s (kind_at t s k) sound made (sym (type_kept t sound s r k is type) ∙ (sym (ap (λ (o : Option Hardware). is_some o) hardware) ∙ e));
       }
 
 pub slaves_are_of_their_types : SlavesAreOfTheirTypes
@@ -147,11 +158,6 @@ slaves_are_of_their_types t sound free s l =
     of_type t sound free s r.0 k.row r.1 k.is k.sound
 
 -- ---- a format for all
-
-type_kept : (t : Contents) → table.IsSound t → (s : ℕ) (r : SlaveRow) (k : TypeRow) → slice_get t.slaves s ≡ Some r → type_of t s ≡ Some k → is_some k.hardware ≡ t.hardware
-type_kept t sound s r k is type =
-    let place = type_there t s r k is type in
-    subst (λ (y : TypeRow). is_some y.hardware ≡ t.hardware) (get_or_from_slice_get t.types r.type_index k k place) (sound.format.types r.type_index k (slice_get_within t.types r.type_index k place))
 
 pub one_format : OnePlanOneFormat
 one_format t sound free s l =

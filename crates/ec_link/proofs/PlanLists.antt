@@ -87,7 +87,7 @@ size_fits t s r h u =
     ]
 
 abbrev pub no_row : SlaveRow
-no_row = record { name = []; type_index = 0; outputs = []; inputs = []; serial = 0; unit = 0 }
+no_row = record { name = []; type_index = 0; outputs = []; inputs = []; serial = 0; unit = 0; init = [] }
 
 pub sizes_fit : (t : Contents) (zs : List SlaveSize) → table.AreSlaves t.version t.types t.slaves → slave_fault t ≡ None → zs ≡ table_sizes t → All IsSize zs
 sizes_fit t zs sound h e =

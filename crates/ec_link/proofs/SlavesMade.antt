@@ -18,7 +18,7 @@ use Rattle.ec_link.proofs.EachFrom.{get_or-each}
 -- the bits of its entries are those of the size at its place
 pub bits_at : (t : Contents) (zs : List SlaveSize) (k : ℕ) (d : SlaveSize) → zs ≡ table_sizes t → k < length t.slaves → (get_or zs k d).bits ≡ slave_entry_bits t k
 bits_at t zs k d e h =
-    let none : SlaveRow = record { name = []; type_index = 0; outputs = []; inputs = []; serial = 0; unit = 0 } in
+    let none : SlaveRow = record { name = []; type_index = 0; outputs = []; inputs = []; serial = 0; unit = 0; init = [] } in
     ap (λ (ys : List SlaveSize). (get_or ys k d).bits) e ∙ ap (λ (z : SlaveSize). z.bits) (get_or-each (size_of t) t.slaves k d none h)
 
 -- of this kind, assignment and size, from a logical bit of a part on

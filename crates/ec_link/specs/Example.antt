@@ -23,10 +23,11 @@ small_type = record {
   process = record { out_start = 0x1100; in_start = 0x1400; outputs = record { index = 0x1600; entries = record { index = 0x7000; subindex = 1; bits = 4 } ∷ [] } ∷ []; inputs = [] };
   lrw = true;
   hardware = None;
+  init = [];
 }
 
 abbrev pub small_slave : SlaveRow
-small_slave = record { name = 115 ∷ []; type_index = 0; serial = 0; outputs = 0x1600 ∷ []; inputs = []; unit = 0 }
+small_slave = record { name = 115 ∷ []; type_index = 0; serial = 0; outputs = 0x1600 ∷ []; inputs = []; unit = 0; init = [] }
 
 abbrev pub small_variable : VariableRow
 small_variable = record { name = 118 ∷ []; direction = Out; bits = 4; signed = false }
@@ -53,9 +54,13 @@ pins_type = record {
     in_manager = usual_inputs;
     has_pins = true;
     has_firmware = false;
+    is_fixed = false;
+    slow = 0;
+    has_emergency = false;
     fmmus = 3;
     any_revision = true;
   });
+  init = [];
 }
 
 abbrev pub pins_table : Contents
@@ -75,6 +80,7 @@ two_way name product mailbox lrw out in_entry = record {
   process = record { out_start = 0x1100; in_start = 0x1400; outputs = record { index = 0x1600; entries = out ∷ [] } ∷ []; inputs = record { index = 0x1A00; entries = in_entry ∷ [] } ∷ [] };
   lrw = lrw;
   hardware = None;
+  init = [];
 }
 
 abbrev pub box : Mailbox
@@ -89,7 +95,7 @@ abbrev pub boxed_type : TypeRow
 boxed_type = two_way 101 2 (Some box) true (record { index = 0x7010; subindex = 1; bits = 12 }) (record { index = 0x6010; subindex = 1; bits = 16 })
 
 abbrev pub slave_in : (name type_index unit : ℕ) → SlaveRow
-slave_in name type_index unit = record { name = name ∷ []; type_index = type_index; serial = 0; outputs = 0x1600 ∷ []; inputs = 0x1A00 ∷ []; unit = unit }
+slave_in name type_index unit = record { name = name ∷ []; type_index = type_index; serial = 0; outputs = 0x1600 ∷ []; inputs = 0x1A00 ∷ []; unit = unit; init = [] }
 
 abbrev pub variable_of : (name : ℕ) → Direction → (bits : ℕ) → VariableRow
 variable_of name direction bits = record { name = name ∷ []; direction = direction; bits = bits; signed = false }

@@ -4,7 +4,8 @@
 use Rattle.std.specs.Option.{ForSome, option_map_or}
 use Rattle.std.specs.Prelude.{ℕ, ◌+◌, ◌*◌, ◌<◌, ◌≤◌, ◌≡◌, ◌&&◌, List, [], ◌∷◌, length, get_or, slice_get, Bool, true, false, ◌%◌, is_some, Some, None, All, Contains}
 use Rattle.ec_bits.specs.Bits.{within, bytes_of_bits}
-use Rattle.ec_device.specs.Hardware.{IsHardware, out_manager, in_manager}
+use Rattle.ec_device.specs.Hardware.{IsHardware, is_assignable, out_manager, in_manager}
+use Rattle.ec_device.specs.Parameters.{AreParameters}
 use Rattle.ec_device.specs.Objects.{bits_assigned}
 use Rattle.ec_device.specs.Types.{IsWithinLimits}
 use Rattle.ec_device.specs.declared.slave_type.Pdo.{Pdo}
@@ -28,7 +29,7 @@ pub use Rattle.ec_link.specs.Meaning.{Linked, in_source, slave_at, Meaning, mean
 pub use Rattle.ec_link.specs.Plan.{PlanState, plan_of, part_at, no_part, part_of}
 pub use Rattle.ec_link.specs.Shares.{same_counters, unit_of_part, predicted, Gave, counters_of, sum_of, lwr_count, lrd_count, lrw_count, whole_share, nothing_given, has_outs, has_ins, share_in}
 pub use Rattle.ec_link.specs.Sizes.{mapped_bits, HasRoom, MappedBitsHaveRoom}
-pub use Rattle.ec_link.specs.SlavePlan.{process_manager, fmmus_of, by_number}
+pub use Rattle.ec_link.specs.SlavePlan.{process_manager, fmmus_of, by_number, IsOfBuffer, ProcessDataIsBuffered}
 pub use Rattle.ec_link.specs.Sound.{manager_of, fmmu_of, IsSound, AreManagers}
 pub use Rattle.ec_link.specs.Usable.{IsUsable, IsInImage}
 use Rattle.ec_link.specs.Variables.{AreApart}
@@ -106,8 +107,8 @@ pub record IsOfItsType (x : SlavePlan) : Type 0 where
   pub starts : ForSome x.kind.mailbox table.HasMailboxStarts
   pub out_names : All (λ (q : Pdo). All table.HasName q.entries) x.kind.outputs
   pub in_names : All (λ (q : Pdo). All table.HasName q.entries) x.kind.inputs
-  pub outputs : table.IsAssignment x.kind.mailbox x.kind.outputs x.outputs
-  pub inputs : table.IsAssignment x.kind.mailbox x.kind.inputs x.inputs
+  pub outputs : table.IsAssignment (is_assignable x.kind.mailbox x.kind.hardware) x.kind.outputs x.outputs
+  pub inputs : table.IsAssignment (is_assignable x.kind.mailbox x.kind.hardware) x.kind.inputs x.inputs
   pub few_outputs : length x.outputs ≤ length x.kind.outputs
   pub few_inputs : length x.inputs ≤ length x.kind.inputs
   pub out_bits : x.bits.outs ≡ bits_assigned x.kind.outputs x.outputs
@@ -121,6 +122,9 @@ pub record IsOfItsType (x : SlavePlan) : Type 0 where
   pub hardware : ForSome x.kind.hardware (IsHardware x.kind.mailbox)
   -- it is not full then
   pub faceless : is_some x.kind.hardware ≡ true → x.kind.face ≡ None
+  -- the downloads to it: those of its type, then its own; none unless it is of a type for real devices
+  pub parameters : AreParameters x.kind.mailbox x.kind.init
+  pub plain : is_some x.kind.hardware ≡ false → x.kind.init ≡ []
 
 abbrev pub SlavesAreOfTheirTypes : Type 0
 SlavesAreOfTheirTypes = (t : Contents) → table.IsSound t → compile_fault t ≡ None → (s : ℕ) → s < length (plan_of t).slaves → IsOfItsType (slave_at (plan_of t) s)

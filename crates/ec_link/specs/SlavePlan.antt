@@ -1,15 +1,16 @@
 -- What a plan sets in a slave: its four sync managers and its four FMMUs (ETG.1000.4; that manager 0 and 1 are the
 -- mailboxes, 2 the outputs, 3 the inputs, and FMMU 0 the outputs, 1 the inputs, is this project's profile). Managers and addresses
 -- are those inside the slave: the numbers and addresses of a real device's registers are a matter of the registers alone.
-use Rattle.std.specs.Prelude.{ℕ, ◌+◌, ◌==◌, ◌≡◌, ◌&&◌, ◌||◌, Bool, true, false, nat_lt, nat_le, if◌then◌else◌, List, [], ◌∷◌, map, get_or, Option, Some, None}
+use Rattle.std.specs.Prelude.{ℕ, ◌+◌, ◌*◌, ◌/◌, ◌%◌, ◌<◌, ◌≤◌, ◌⊎◌, ◌==◌, ◌≡◌, ◌&&◌, ◌||◌, Bool, true, false, nat_lt, nat_le, if◌then◌else◌, List, [], ◌∷◌, map, get_or, Option, Some, None}
 use Rattle.std.specs.List.{list_any}
+use Rattle.std.specs.Option.{ForSome}
 use Rattle.ec_bits.specs.Bits.{bytes_of_bits}
 use Rattle.ec_device.specs.declared.slave_type.Mailbox.{Mailbox}
 use Rattle.ec_device.specs.declared.hardware.Hardware.{Hardware}
-use Rattle.ec_device.specs.Hardware.{out_manager, in_manager, manager_place, pins_inside}
+use Rattle.ec_device.specs.Hardware.{IsHardware, out_manager, in_manager, manager_place, pins_inside}
 use Rattle.ec_regs.specs.declared.manager.SyncManagerSettings.{SyncManagerSettings}
 use Rattle.ec_regs.specs.declared.fmmu.FmmuSettings.{FmmuSettings}
-use Rattle.ec_regs.specs.Managers.{no_settings, area_settings, span, mailbox_out_control, mailbox_in_control, outputs_control, inputs_control}
+use Rattle.ec_regs.specs.Managers.{no_settings, area_settings, is_mailbox, is_set, span, mailbox_out_control, mailbox_in_control, outputs_control, inputs_control}
 use Rattle.ec_regs.specs.Memory.{ram_start, ram_end}
 use Rattle.ec_regs.specs.Fmmus.{no_fmmu}
 use Rattle.ec_fmmu.specs.Runs.{run_settings}
@@ -40,6 +41,23 @@ managers_of mailbox o out_start in_start outs ins =
 pub record UsualControls : Type 0 where
   pub outputs : (out_manager None).control ≡ outputs_control
   pub inputs : (in_manager None).control ≡ inputs_control
+
+-- a control byte of a buffered manager that the ring writes or reads (ETG.1000.4, "Sync manager")
+pub record IsOfBuffer (control : ℕ) : Type 0 where
+  pub mode : control % 4 ≡ 0
+  pub way : (control / 4 % 4 ≡ 1) ⊎ (control / 4 % 4 ≡ 0)
+
+-- Process data is buffered: the type's control bytes say so, such a manager is no mailbox, and it is set if its three buffers lie in
+-- the RAM.
+pub record ProcessDataIsBuffered : Type 0 where
+  pub type_outputs : (mailbox : Option Mailbox) (o : Option Hardware) → ForSome o (IsHardware mailbox) → IsOfBuffer (out_manager o).control
+  pub type_inputs : (mailbox : Option Mailbox) (o : Option Hardware) → ForSome o (IsHardware mailbox) → IsOfBuffer (in_manager o).control
+  pub outputs : (control : ℕ) → control % 16 ≡ 4 → IsOfBuffer control
+  pub inputs : (control : ℕ) → control % 16 ≡ 0 → IsOfBuffer control
+  pub no_mailbox : (start bytes control : ℕ) → IsOfBuffer control → is_mailbox (area_settings start bytes control) ≡ false
+  pub set : (start bytes control : ℕ) → IsOfBuffer control → 0 < bytes → ram_start ≤ start → start + 3 * bytes ≤ ram_end → is_set (area_settings start bytes control) ≡ true
+  -- bits have a manager
+  pub some : (start bits control : ℕ) → 0 < bits → process_manager start bits control ≡ area_settings start (bytes_of_bits bits) control
 
 abbrev pub manager_in_place : List SyncManagerSettings → ℕ → SyncManagerSettings
 manager_in_place ms place = get_or ms place no_settings

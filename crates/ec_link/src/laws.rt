@@ -7,7 +7,7 @@ ghost use Rattle.ec_link.specs.Interface.{PlansAreSound, PlansAreUsable, PlansHa
 ghost use Rattle.ec_link.specs.Interface.{LinkedBitsAreThere, LinkedInputsAreThere, PlansListTheUnits, SlavesAreOfTheirTypes, SettingsAreListed};
 ghost use Rattle.ec_link.specs.Interface.{OnePlanOneFormat, HardwareIsInWholeBytes};
 ghost use Rattle.ec_link.specs.Sizes.{MappedBitsHaveRoom};
-ghost use Rattle.ec_link.specs.SlavePlan.{UsualControls};
+ghost use Rattle.ec_link.specs.SlavePlan.{ProcessDataIsBuffered, UsualControls};
 
 /// The fault that `compile` returns is the first that the table has, by the numbers of the kinds and then by the places. If it
 /// returns none, the table has none.
@@ -113,4 +113,10 @@ pub fn controls_are_usual()
 #[tactic(auto, using(crate::proofs::SettingsAreListed::listed))]
 pub fn settings_are_listed()
     ensures { SettingsAreListed }
+{}
+
+/// Process data is buffered, in managers that are set if their three buffers lie in the RAM.
+#[tactic(auto, using(crate::proofs::ManagersApart::process_data_is_buffered))]
+pub fn process_data_is_buffered()
+    ensures { ProcessDataIsBuffered }
 {}

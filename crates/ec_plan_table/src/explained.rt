@@ -1,7 +1,7 @@
 //! A plan for people: where each bit of each object stands, and which variable it is linked with.
 ghost use Rattle.std.specs.Prelude.{◌<◌, length};
 
-use ec_device::{Entry, INPUTS_PLACE, OUTPUTS_PLACE};
+use ec_device::{Entry, INPUTS_PLACE, OUTPUTS_PLACE, Parameter};
 use ec_link::{ExpectedCounters, Link, PartPlan, Plan, SlavePlan};
 use ec_table::{Direction, SlaveRow, Table};
 use std::alloc::{AllocError, Global};
@@ -219,6 +219,7 @@ impl<'a> Explained<'a> {
         if share.outs == 0 && share.ins == 0 {
             writeln!(text, "  no process data")?;
         }
+        write_init(text, settings.kind.init())?;
         for (direction, bits) in [(Direction::Out, share.outs), (Direction::In, share.ins)] {
             if bits > 0 {
                 let entries = self.table.entries_of(self.alloc, slave, direction)?;
@@ -242,8 +243,8 @@ impl<'a> Explained<'a> {
     }
 }
 
-/// The plan of a table for people, part by part, for each slave in it and each direction. It has what the
-/// slave assigns, and for the bits of each object their place in its own data and in the logical bits. It
+/// The plan of a table for people, part by part, for each slave in it and each direction. It has the downloads to the
+/// slave, what it assigns, and for the bits of each object their place in its own data and in the logical bits. It
 /// names the variable that they are linked with. The plan must be
 /// that of the table; no line has over 100 characters. `AllocError` if memory ran out.
 pub fn explain_text(alloc: Global, table: &Table, plan: &Plan) -> Result<String, AllocError> {
@@ -254,6 +255,19 @@ pub fn explain_text(alloc: Global, table: &Table, plan: &Plan) -> Result<String,
         explained.write_slaves(&mut text, number)?;
     }
     Ok(text)
+}
+
+/// Adds the downloads to a slave, in order: those of its type, then its own.
+fn write_init(text: &mut String, parameters: &[Parameter]) -> Result<(), AllocError> {
+    for parameter in parameters {
+        let (index, subindex) = (parameter.index, parameter.subindex);
+        let (bits, value) = (parameter.size.bits(), parameter.value);
+        writeln!(
+            text,
+            "  download: 0x{index:04x}:0x{subindex:02x}, {bits} bits, 0x{value:x}"
+        )?;
+    }
+    Ok(())
 }
 
 /// Adds the heading of a part.

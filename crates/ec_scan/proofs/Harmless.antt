@@ -11,7 +11,7 @@ use Rattle.ec_frame.specs.Datagram.{Datagram, ado_of}
 use Rattle.ec_start.specs.declared.action.Transfer.{Transfer}
 use Rattle.ec_start.specs.declared.action.Transfer.TheVariants.{Download, Upload}
 use Rattle.ec_start.specs.declared.action.SdoRequest.{SdoRequest}
-use Rattle.ec_start.specs.declared.action.Action.TheVariants.{CountSlaves, AskInit, AwaitInit, ClearFmmus, ClearManagers, ClearStations, NameSlave, AskWord, AwaitWord, SetManager, SetFmmu, AskState, AwaitState, SendRequest, AwaitReply, AwaitInitState, ClearAllFmmus, ClearAllManagers, AssignSii, ClearSiiError, AwaitCleanInit, FeedPart}
+use Rattle.ec_start.specs.declared.action.Action.TheVariants.{CountSlaves, AskInit, AwaitInit, ClearFmmus, ClearManagers, ClearStations, NameSlave, AskWord, AwaitWord, SetManager, SetFmmu, AskState, AwaitState, SendRequest, AwaitReply, AwaitFreeReply, AwaitInitState, ClearAllFmmus, ClearAllManagers, AssignSii, ClearSiiError, AwaitCleanInit, FeedPart}
 use Rattle.ec_start.specs.Actions.{request_bytes, request_command, request_message}
 use Rattle.ec_scan.specs.Laws.{HarmlessActions}
 use Rattle.ec_scan.specs.Scanning.{IsHarmless, IsRequest, al_control, is_logical, is_low, is_upload, is_write, sii_command, writes, written_at}
@@ -201,6 +201,7 @@ harmless_actions (SendRequest i before b r) number doable of_scan =
     mild _ b.receive_start (ado_sent (0x1001 + i) b.receive_start) refl
     (request_mild b.receive_start _ of_scan.1 (asks_to_upload before r _ of_scan.0))
 harmless_actions (AwaitReply i b r) number doable of_scan = quiet _ refl refl
+harmless_actions (AwaitFreeReply i b r) number doable of_scan = quiet _ refl refl
 harmless_actions AwaitInitState number doable of_scan = quiet _ refl refl
 harmless_actions ClearAllFmmus number doable of_scan = mild _ 0x0600 (ado_sent 0 0x0600) refl (zeros_mild 0x0600 256 (omega arith))
 harmless_actions ClearAllManagers number doable of_scan = mild _ 0x0800 (ado_sent 0 0x0800) refl (zeros_mild 0x0800 128 (omega arith))

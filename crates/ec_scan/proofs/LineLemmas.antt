@@ -10,7 +10,7 @@ use Rattle.ec_start.specs.Actions.{datagram_of, frame_of}
 use Rattle.ec_start.specs.Answered.{IsAnswerIn}
 use Rattle.ec_start.specs.Doable.{IsDoable}
 use Rattle.ec_start.specs.declared.action.Action.{Action}
-use Rattle.ec_start.specs.declared.action.Action.TheVariants.{CountSlaves, AskInit, AwaitInit, ClearFmmus, ClearManagers, ClearStations, NameSlave, AskWord, AwaitWord, SetManager, SetFmmu, AskState, AwaitState, SendRequest, AwaitReply, AwaitInitState, ClearAllFmmus, ClearAllManagers, AssignSii, ClearSiiError, AwaitCleanInit, FeedPart}
+use Rattle.ec_start.specs.declared.action.Action.TheVariants.{CountSlaves, AskInit, AwaitInit, ClearFmmus, ClearManagers, ClearStations, NameSlave, AskWord, AwaitWord, SetManager, SetFmmu, AskState, AwaitState, SendRequest, AwaitReply, AwaitFreeReply, AwaitInitState, ClearAllFmmus, ClearAllManagers, AssignSii, ClearSiiError, AwaitCleanInit, FeedPart}
 use Rattle.ec_start.specs.declared.error.StartError.{StartError}
 use Rattle.ec_wire.specs.Wires.{Trace, Nothing, Number, Payloads, WireState, Carries, grown}
 use Rattle.ec_scan.specs.Lines.{HasSentFrames, IsAnswered, IsHeard, IsOnLine, LineState}
@@ -94,6 +94,7 @@ one_length (AskState i state) number = refl
 one_length (AwaitState i state) number = refl
 one_length (SendRequest i before b r) number = refl
 one_length (AwaitReply i b r) number = refl
+one_length (AwaitFreeReply i b r) number = refl
 one_length AwaitInitState number = refl
 one_length ClearAllFmmus number = refl
 one_length ClearAllManagers number = refl

@@ -15,7 +15,7 @@ use Rattle.ec_frame.specs.Frame.{IsFrame}
 use Rattle.ec_start.specs.declared.action.Transfer.{Transfer}
 use Rattle.ec_start.specs.declared.action.Transfer.TheVariants.{Download, Upload}
 use Rattle.ec_start.specs.declared.action.Action.{Action}
-use Rattle.ec_start.specs.declared.action.Action.TheVariants.{CountSlaves, AskInit, AwaitInit, ClearFmmus, ClearManagers, ClearStations, NameSlave, AskWord, AwaitWord, SetManager, SetFmmu, AskState, AwaitState, SendRequest, AwaitReply, AwaitInitState, ClearAllFmmus, ClearAllManagers, AssignSii, ClearSiiError, AwaitCleanInit, FeedPart}
+use Rattle.ec_start.specs.declared.action.Action.TheVariants.{CountSlaves, AskInit, AwaitInit, ClearFmmus, ClearManagers, ClearStations, NameSlave, AskWord, AwaitWord, SetManager, SetFmmu, AskState, AwaitState, SendRequest, AwaitReply, AwaitFreeReply, AwaitInitState, ClearAllFmmus, ClearAllManagers, AssignSii, ClearSiiError, AwaitCleanInit, FeedPart}
 use Rattle.ec_start.specs.Actions.{frame_of}
 use Rattle.ec_start.specs.Doable.{IsDoable}
 
@@ -55,6 +55,7 @@ IsOfScan (AwaitState i state) = is_low state ≡ true
 -- a mailbox that lies in the RAM
 IsOfScan (SendRequest i before b r) = (is_upload r.transfer ≡ true) × (ram ≤ b.receive_start) × (b.receive_start + b.receive_size ≤ 65536)
 IsOfScan (AwaitReply i b r) = Unit {0}
+IsOfScan (AwaitFreeReply i b r) = Unit {0}
 IsOfScan AwaitInitState = Unit {0}
 IsOfScan ClearAllFmmus = Unit {0}
 IsOfScan ClearAllManagers = Unit {0}

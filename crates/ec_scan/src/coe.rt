@@ -9,8 +9,7 @@ use crate::line::{Line, MAX_POLLS};
 use byteorder::{ByteOrder, LittleEndian};
 use ec_al::State;
 use ec_coe::{
-    INPUT_ASSIGNMENT, Message, OUTPUT_ASSIGNMENT, Reply, SdoCommand, SdoValue, Service, ValueSize,
-    read_message,
+    INPUT_ASSIGNMENT, OUTPUT_ASSIGNMENT, Reply, SdoValue, ValueSize, is_aside, read_free_reply,
 };
 use ec_device::{Entry, Mailbox, Pdo};
 use ec_listed::Listed;
@@ -18,12 +17,6 @@ use ec_regs::{AlWord, CONTROL_MAILBOX_IN, CONTROL_MAILBOX_OUT, SyncManagerSettin
 use ec_start::{Action, ManagerRegister, SdoRequest, StartError, Transfer};
 use ec_wire::{Pace, Wire};
 use std::alloc::Global;
-
-/// The bits of a command that say that it responds to an upload, and that the value is in it (ETG.1000.6, "Upload SDO expedited
-/// response"); bit 0 says whether the size is said.
-const EXPEDITED: u8 = 0xE3;
-
-const UNSIZED: u8 = 0x42;
 
 /// The PDOs that a slave exchanges towards it and from it; none of a direction if it doesn't say so.
 #[derive(Drop)]
@@ -271,25 +264,10 @@ fn upload<W: Wire + Drop, P: Pace + Drop>(
     Err(line.too_slow())
 }
 
-/// The reply in a mailbox; none if its message is to be set aside.
+/// The reply in a mailbox; none if its message is set aside. A value whose size isn't said has four bytes.
 fn reply_in(mailbox: &[u8], index: u16, subindex: u8) -> Option<Reply> {
-    let Ok(message) = read_message(mailbox) else {
+    if is_aside(mailbox) {
         return None;
-    };
-    match message.service {
-        Service::Other(_) => None,
-        Service::Request | Service::Response => Some(reply_of(message, index, subindex)),
     }
-}
-
-/// What a message says as the reply to a request. A value whose size isn't said has four bytes.
-fn reply_of(message: Message, index: u16, subindex: u8) -> Reply {
-    let command = match message.command {
-        SdoCommand::Other(number) if number & EXPEDITED == UNSIZED => {
-            SdoCommand::UploadResponse(ValueSize::Four)
-        }
-        command => command,
-    };
-    let said = Message { command, ..message };
-    said.reply_to(index, subindex)
+    Some(read_free_reply(mailbox, index, subindex, ValueSize::Four))
 }

@@ -104,6 +104,13 @@ impl Session {
         &self.master
     }
 
+    /// The start-up, the last that was begun.
+    pub fn startup(&self) -> &Startup<'static>
+        ensures { result.now ≡ self.now.startup }
+    {
+        &self.startup
+    }
+
     /// The report of the last cycle that had one; none if there was no such cycle yet.
     pub fn report(&self) -> Option<&Report>
         ensures { MatchOption result (self.now.report ≡ None) (λ report. self.now.report ≡ Some report.now) }

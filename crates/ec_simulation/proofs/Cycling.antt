@@ -31,10 +31,8 @@ use Rattle.ec_device.specs.declared.slave_type.Identity.{Identity}
 use Rattle.ec_table.specs.Contents.{Contents}
 use Rattle.ec_link.specs.Plan.{PlanState, plan_of}
 use Rattle.ec_link.proofs.Soundness.{plan_sound}
-use Rattle.ec_start.specs.Scripts.{script}
-use Rattle.ec_start.specs.Feeding.{feeds_of, frames_of}
 use Rattle.ec_world.specs.Undisturbed.{Rests, IsExchanged, round_of, rounds_of, cycle_of}
-use Rattle.ec_world.specs.NewWorld.{IsToStart}
+use Rattle.ec_world.specs.NewWorld.{IsToStart, frames_to_ready}
 use Rattle.ec_world.specs.Whole.{IsNew}
 use Rattle.ec_world.proofs.StartUp.NewLaw.{machine_law, new_law, new_next}
 use Rattle.ec_world.proofs.Cycles.CycleMade.{cycle_made, free_there}
@@ -228,8 +226,8 @@ taken_text_law t ids old new word rest h r e =
 rests : (t : Contents) (ids : List Identity) (old mid : WorldState) → IsNew t ids old → IsReadied t old mid → Rests t ids mid
 rests t ids old mid n r =
     let up = r.up in
-    let fits = script_fits t n.sound n.accepted in
-    let sent : mid.start.next ≡ old.start.next + frames_of (feeds_of (plan_of t)) (script (plan_of t).slaves) = up.works.next_number in
+    let fits = script_fits t n.sound n.accepted old.slaves in
+    let sent : mid.start.next ≡ old.start.next + frames_to_ready t old = up.works.next_number in
     let zero_sent : old.start.next ≡ 0 = new_next t ids old n in
     let zero_master : old.master.next ≡ 0 = ap (λ (x : WorldState). x.master.next) n.is in
     let next = up.next_number in
@@ -257,7 +255,7 @@ ready_cycle t ids old mid new first second n starts ready cycle =
     (r.0, r.1, c.0, c.1)
 
 pub ready_cycle_law : ReadyCycleLaw
-ready_cycle_law t ids old mid new first second n d = ready_cycle t ids old mid new first second n (new_law t ids old n d)
+ready_cycle_law t ids old mid new first second n d agree = ready_cycle t ids old mid new first second n (new_law t ids old n d agree)
 
 pub machine_cycle_law : MachineCycleLaw
-machine_cycle_law t old mid new first second m = ready_cycle t m.identities old mid new first second m.new (machine_law t old m)
+machine_cycle_law t old mid new first second m agree = ready_cycle t m.identities old mid new first second m.new (machine_law t old m agree)

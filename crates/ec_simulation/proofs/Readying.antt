@@ -208,7 +208,7 @@ ready_law t old new word from does =
     let long = b.long in
     let room = from.numbers in
     let r : AllTurned b.k old new word = starts_up last_turn b.k _ old new word b.turns_left (omega (arith, long, room)) does in
-    let turns : BringUp t r.events = subst (λ (m : ℕ). AreTurns (length t.slaves) m r.events) (sym long) (subst (λ (m : ℕ). AreTurns m (suc b.k) r.events) b.many r.turns) in (
+    let turns : BringUp t old r.events = subst (λ (m : ℕ). AreTurns (length t.slaves) m r.events) (sym long) (subst (λ (m : ℕ). AreTurns m (suc b.k) r.events) b.many r.turns) in (
       r.says,
       record { events = r.events; turns = turns; run = r.run; up = comes_up t old from r.events new (length r.events) turns r.run },
     )

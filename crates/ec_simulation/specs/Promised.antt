@@ -5,13 +5,14 @@ use Rattle.ec_device.specs.declared.slave_type.Identity.{Identity}
 use Rattle.ec_table.specs.Contents.{Contents}
 use Rattle.ec_table.specs.declared.rows.Version.{Version}
 use Rattle.ec_table.specs.declared.rows.Version.TheVariants as version
+use Rattle.ec_link.specs.Plan.{plan_of}
 use Rattle.ec_text.specs.PlanText.{lines_from}
 use Rattle.ec_cycle.specs.Closing.{ReportState}
 use Rattle.ec_world.specs.declared.event.Event.{Event}
 use Rattle.ec_world.specs.World.{WorldState}
 use Rattle.ec_world.specs.Laws.{IsRun}
 use Rattle.ec_world.specs.Whole.{IsNew, IsOfMachine}
-use Rattle.ec_world.specs.NewWorld.{AreOfTypes, BringUp, IsToStart, IsBroughtUp}
+use Rattle.ec_world.specs.NewWorld.{AllAgree, AreOfTypes, BringUp, IsToStart, IsBroughtUp}
 use Rattle.ec_world.specs.Undisturbed.{Rests, IsExchanged, cycle_of}
 use Rattle.ec_script.specs.declared.line.LineAction.TheVariants.{Ready, Cycle}
 use Rattle.ec_script.specs.declared.output.LineOutput.{LineOutput}
@@ -19,11 +20,10 @@ use Rattle.ec_script.specs.declared.output.LineOutput.TheVariants as output
 use Rattle.ec_text.specs.ReportText.{units_text}
 use Rattle.ec_simulation.specs.Work.{Does}
 
--- The turns of a whole start-up were made, one frame for each action of its script. It is Ready: each slave is in OP and works as
--- planned.
+-- The turns of a whole start-up were made, as many frames as it takes. It is Ready: each slave is in OP and works as planned.
 pub record IsReadied (t : Contents) (old new : WorldState) : Type 0 where
   pub events : List Event
-  pub turns : BringUp t events
+  pub turns : BringUp t old events
   pub run : IsRun old events new (length events)
   pub up : IsBroughtUp t old events new (length events)
 
@@ -54,15 +54,16 @@ TakenTextLaw =
     (t : Contents) (identities : List Identity) (old new : WorldState) (word : LineOutput) → Rests t identities old → Does Cycle old new word
     → (r : ReportState) → new.report ≡ Some r → units_text t.version r ≡ taken_units t.version r.units
 
--- `ready` and then `cycle` on a new world of devices: the start-up ends Ready, and the cycle takes every unit.
+-- `ready` and then `cycle` on a new world of devices whose parameters agree with the plan: the start-up ends Ready, and the cycle takes
+-- every unit.
 abbrev pub ReadyCycleLaw : Type 0
 ReadyCycleLaw =
-    (t : Contents) (identities : List Identity) (old mid new : WorldState) (first second : LineOutput) → IsNew t identities old → AreOfTypes t identities
+    (t : Contents) (identities : List Identity) (old mid new : WorldState) (first second : LineOutput) → IsNew t identities old → AreOfTypes t identities → AllAgree (plan_of t).slaves
     → Does Ready old mid first → Does Cycle mid new second
     → (first ≡ output.Ended) × IsReadied t old mid × (second ≡ output.Report) × IsExchanged t mid new (length (cycle_of t))
 
 -- This holds for a world that is made of a machine.
 abbrev pub MachineCycleLaw : Type 0
 MachineCycleLaw =
-    (t : Contents) (old mid new : WorldState) (first second : LineOutput) → IsOfMachine t old → Does Ready old mid first → Does Cycle mid new second
+    (t : Contents) (old mid new : WorldState) (first second : LineOutput) → IsOfMachine t old → AllAgree (plan_of t).slaves → Does Ready old mid first → Does Cycle mid new second
     → (first ≡ output.Ended) × IsReadied t old mid × (second ≡ output.Report) × IsExchanged t mid new (length (cycle_of t))

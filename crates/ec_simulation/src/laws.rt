@@ -30,8 +30,8 @@ pub fn taken_is_printed()
     ensures { TakenTextLaw }
 {}
 
-/// `ready` and then `cycle` on a new world of devices, such as one that is made of a machine. The start-up ends Ready, and the
-/// cycle takes every unit.
+/// `ready` and then `cycle` on a new world of devices, such as one that is made of a machine. If their parameters agree with what the
+/// plan assigns, the start-up ends Ready, and the cycle takes every unit.
 pub fn ready_and_cycle()
     ensures devices { ReadyCycleLaw }
     ensures machine { MachineCycleLaw }

@@ -15,3 +15,5 @@ pub mod ManagersGoByRuns
 pub mod ReadsShowTheRun
 -- a slave of a type of real devices
 pub mod HardwareLaws
+-- slow firmware, and the emergency of a slave that enters PREOP
+pub mod SlowAndLoud

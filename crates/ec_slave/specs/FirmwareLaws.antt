@@ -1,12 +1,12 @@
 -- What a firmware step does, and what it does not.
-use Rattle.std.specs.Prelude.{ℕ, ◌≡◌, ◌≢◌, ◌≤◌, List, AllPairs, Some, true, false, None}
+use Rattle.std.specs.Prelude.{ℕ, ◌≡◌, ◌≢◌, ◌≤◌, List, AllPairs, Some, true, false, None, if◌then◌else◌}
 use Rattle.ec_al.specs.States.{state_number}
 use Rattle.ec_al.specs.Transitions.{requested_number}
 use Rattle.ec_al.specs.declared.state.State.{State}
 use Rattle.ec_al.specs.declared.state.State.TheVariants.{Init, PreOp, SafeOp, Op}
 use Rattle.ec_device.specs.declared.slave_type.Identity.{Identity}
 use Rattle.ec_device.specs.declared.slave_type.Pdo.{Pdo}
-use Rattle.ec_device.specs.Hardware.{has_firmware}
+use Rattle.ec_device.specs.Hardware.{has_firmware, is_fixed}
 use Rattle.ec_device.specs.Types.{SlaveKind, pdos_bits}
 use Rattle.ec_frame.specs.Datagram.{Datagram}
 use Rattle.ec_coe.specs.Transfers.{max_bits}
@@ -16,7 +16,7 @@ use Rattle.ec_slave.specs.Meeting.{slave_met}
 use Rattle.ec_slave.specs.Application.{is_running, input_put, output_got, output_taken}
 use Rattle.ec_slave.specs.Faulting.{faulted}
 use Rattle.ec_slave.specs.Checking.{checks_of, control_word}
-use Rattle.ec_slave.specs.Serving.{served, request_decided, reply_counter}
+use Rattle.ec_slave.specs.Serving.{served, greets_by, request_decided, reply_counter}
 
 -- no AL request, no read of the SII and no message waits
 pub record IsResting (s : SlaveState) : Type 0 where
@@ -63,17 +63,20 @@ StatesAreEntered =
     × ((served s).al.state ≡ SafeOp → s.al.state ≡ PreOp → ((checks_of s).outputs ≡ true) × ((checks_of s).inputs ≡ true))
     × ((served s).al.state ≡ PreOp → s.al.state ≡ Init → (checks_of s).mailbox ≡ true)
 
--- If PREOP is entered from INIT, the next reply has number 1.
+-- If PREOP is entered from INIT, the next reply has number 1, but if an emergency was sent: that has it.
 abbrev pub FirstReplyIsOne : Type 0
-FirstReplyIsOne = (s : SlaveState) → s.al.state ≡ Init → (request_decided s).al.state ≡ PreOp → reply_counter (request_decided s).replies ≡ 1
+FirstReplyIsOne =
+    (s : SlaveState) → s.al.state ≡ Init → (request_decided s).al.state ≡ PreOp
+    → reply_counter (request_decided s).replies ≡ (if greets_by s (request_decided s).al then 2 else 1)
 
 -- what a firmware step does to the PDOs that are assigned
 pub record KeepsAssigned (s t : SlaveState) : Type 0 where
   pub elsewhere : t.al.state ≢ PreOp → (t.outs ≡ s.outs) × (t.ins ≡ s.ins)
+  pub fixed : is_fixed s.kind.hardware ≡ true → (t.outs ≡ s.outs) × (t.ins ≡ s.ins)
   pub outputs : IsAssignment s.kind.outputs s.outs → IsAssignment s.kind.outputs t.outs
   pub inputs : IsAssignment s.kind.inputs s.ins → IsAssignment s.kind.inputs t.ins
 
--- An assignment changes only in PREOP, and stays a list of the type's own PDOs, with none of them twice and with at most 2048
+-- An assignment changes only in PREOP, one that is fixed not at all; and it stays a list of the type's own PDOs, with none of them twice and with at most 2048
 -- bits.
 abbrev pub ServesKeepAssignments : Type 0
 ServesKeepAssignments = (s : SlaveState) → KeepsAssigned s (served s)

@@ -1,27 +1,31 @@
 -- What a slave of a type of real devices does that others don't: its registers go by numbers and by the addresses of its pins, it
--- may lack FMMUs and firmware, and it may want outputs before OP.
-use Rattle.std.specs.Prelude.{ℕ, ◌+◌, ◌%◌, ◌<◌, ◌≡◌, ◌≢◌, List, true, false, Option, Some, None}
+-- may lack FMMUs and firmware, want outputs before OP, be slow, and send an emergency.
+use Rattle.std.specs.Prelude.{ℕ, ◌+◌, ◌%◌, ◌<◌, ◌≤◌, ◌≡◌, ◌≢◌, List, length, true, false, Option, Some, None, is_some}
 use Rattle.ec_device.specs.declared.hardware.Hardware.{Hardware}
 use Rattle.ec_device.specs.declared.slave_type.Identity.{Identity}
-use Rattle.ec_device.specs.Hardware.{AreNumbered, manager_number, has_firmware}
+use Rattle.ec_device.specs.Hardware.{AreNumbered, manager_number, has_firmware, has_emergency}
 use Rattle.ec_device.specs.Types.{SlaveKind}
 use Rattle.ec_regs.specs.declared.manager.SyncManagerSettings.{SyncManagerSettings}
 use Rattle.ec_regs.specs.Managers.{manager_bytes}
 use Rattle.ec_regs.specs.Memory.{al_status, manager_start}
 use Rattle.ec_regs.specs.Names.{shown_manager}
 use Rattle.ec_frame.specs.Datagram.{Datagram}
+use Rattle.ec_al.specs.Al.{waiting}
 use Rattle.ec_al.specs.Transitions.{requested_by}
 use Rattle.ec_al.specs.declared.state.State.{State}
-use Rattle.ec_al.specs.declared.state.State.TheVariants.{Op}
+use Rattle.ec_al.specs.declared.state.State.TheVariants.{Init, PreOp, Op}
 use Rattle.ec_al.specs.declared.transition.Requested.TheVariants.{To}
+use Rattle.ec_coe.specs.Emergency.{emergency_bytes}
+use Rattle.ec_coe.specs.Messages.{message_length}
 use Rattle.ec_sync.specs.Governing.{manager_byte}
+use Rattle.ec_sync.specs.SyncManager.{message_put}
 use Rattle.ec_slave.specs.State.{SlaveState, manager_at, power_on}
 use Rattle.ec_slave.specs.Physical.{Window, byte_at, as_shown, is_configured, is_missing, settings_written}
 use Rattle.ec_slave.specs.Meeting.{slave_met}
 use Rattle.ec_slave.specs.Application.{input_put, output_got, output_taken}
 use Rattle.ec_slave.specs.Checking.{control_word}
 use Rattle.ec_slave.specs.Faulting.{faulted}
-use Rattle.ec_slave.specs.Serving.{served}
+use Rattle.ec_slave.specs.Serving.{served, request_decided, with_al, al_decided, is_awaiting, is_served, takes_reply}
 use Rattle.ec_slave.specs.Showing.{after_all}
 use Rattle.ec_slave.specs.Steps.{Happening}
 
@@ -84,3 +88,37 @@ pub record StaysOutsideOp (s : SlaveState) : Type 0 where
 
 abbrev pub OutputsAreAwaitedOutsideOp : Type 0
 OutputsAreAwaitedOutsideOp = (s : SlaveState) → AwaitsOutsideOp s → StaysOutsideOp s
+
+-- ---- slow firmware
+
+-- A request that waits at slow firmware is decided by the step that finds that as many before it let it wait as the type says; until
+-- then the slave is as it was, but for the count of these steps.
+pub record WaitsLong (s : SlaveState) (h : Hardware) : Type 0 where
+  pub waits : s.al.waited < h.slow → request_decided s ≡ record s { al = waiting s.al }
+  pub decides : h.slow ≤ s.al.waited → is_awaiting s.kind.hardware s ≡ false → request_decided s ≡ with_al s (al_decided s.kind.hardware s)
+
+abbrev pub RequestsWaitLong : Type 0
+RequestsWaitLong =
+    (s : SlaveState) (h : Hardware) → s.kind.hardware ≡ Some h → h.has_firmware ≡ true → s.al.requested ≡ true → WaitsLong s h
+
+-- ---- emergencies
+
+-- a slave that sends an emergency as it enters PREOP from INIT, through a mailbox that was empty
+pub record Greets (s : SlaveState) : Type 0 where
+  pub shouts : has_emergency s.kind.hardware ≡ true
+  pub mailbox : is_some s.kind.mailbox ≡ true
+  pub four : length s.managers ≡ 4
+  pub old : s.al.state ≡ Init
+  pub new : (request_decided s).al.state ≡ PreOp
+  pub takes : takes_reply (manager_at s.managers 1) ≡ true
+  pub room : message_length ≤ (manager_at s.managers 1).settings.length
+
+-- The emergency lies in manager 1 with counter 1, so that no message is taken before it is read; the other managers are as they were.
+pub record HasGreeted (s t : SlaveState) : Type 0 where
+  pub own : manager_at t.managers 1 ≡ message_put (manager_at s.managers 1) (emergency_bytes 1)
+  pub others : (n : ℕ) → n ≢ 1 → manager_at t.managers n ≡ manager_at s.managers n
+  pub counter : t.replies ≡ 1
+  pub waits : is_served t ≡ false
+
+abbrev pub EmergenciesComeFirst : Type 0
+EmergenciesComeFirst = (s : SlaveState) → Greets s → HasGreeted s (request_decided s)

@@ -1,7 +1,7 @@
 -- What the crates above may know of a slave: the words of it and of its parts, handed on, and laws for each thing that happens
 -- to it. Nothing above opens a definition of this crate; what is not said here can change without them.
 use Rattle.std.specs.Int.{from_bool, to_le_bytes, w32}
-use Rattle.std.specs.Prelude.{ℕ, zero, suc, ◌+◌, ◌-◌, ◌*◌, ◌%◌, ◌^◌, ◌<◌, ◌≤◌, ◌≡◌, ◌≢◌, ◌==◌, ◌⊎◌, List, [], ◌∷◌, length, take, slice_index, slice_set, unwrap_or, Bool, true, false, if◌then◌else◌, Option, Some, None}
+use Rattle.std.specs.Prelude.{ℕ, zero, suc, ◌+◌, ◌-◌, ◌*◌, ◌%◌, ◌^◌, ◌<◌, ◌≤◌, ◌≡◌, ◌≢◌, ◌==◌, ◌⊎◌, List, [], ◌∷◌, length, map, take, slice_index, slice_set, unwrap_or, Bool, true, false, if◌then◌else◌, Option, Some, None}
 use Rattle.ec_bits.specs.Bits.{within}
 pub use Rattle.ec_frame.specs.Building.{bare_payload}
 pub use Rattle.ec_frame.specs.Datagram.{Datagram, adp_of, ado_of, IsDatagram}
@@ -13,7 +13,7 @@ pub use Rattle.ec_frame.specs.declared.command.Command.TheVariants.{Nop, Lrd, Lw
 pub use Rattle.ec_device.specs.Objects.{bits_assigned, pdo_at}
 pub use Rattle.ec_device.specs.Types.{SlaveKind, device_of, IsEntry, IsMailbox, ArePdos, first_output_index, first_input_index, IsPdo, IsWithinLimits, plain_kind, device_identity}
 pub use Rattle.ec_device.specs.declared.hardware.Hardware.{Hardware}
-pub use Rattle.ec_device.specs.Hardware.{AreNumbered, fmmu_count, has_firmware, manager_number, manager_place, other_name}
+pub use Rattle.ec_device.specs.Hardware.{AreNumbered, fmmu_count, has_emergency, has_firmware, is_assignable, is_fixed, manager_number, manager_place, other_name, slow}
 pub use Rattle.ec_device.specs.declared.slave_type.Device.{Device}
 pub use Rattle.ec_device.specs.declared.slave_type.Entry.{Entry}
 pub use Rattle.ec_device.specs.declared.slave_type.Identity.{Identity}
@@ -26,7 +26,7 @@ pub use Rattle.ec_regs.specs.Memory.{al_control, al_status, sii_control, sii_dat
 pub use Rattle.ec_regs.specs.Words.{al_flag, sii_error, sii_busy, al_word}
 pub use Rattle.ec_regs.specs.declared.fmmu.FmmuSettings.{FmmuSettings}
 pub use Rattle.ec_regs.specs.declared.manager.SyncManagerSettings.{SyncManagerSettings}
-pub use Rattle.ec_al.specs.Al.{Al, requesting, decided, answered, copied, status_word}
+pub use Rattle.ec_al.specs.Al.{Al, requesting, waiting, decided, answered, copied, status_word}
 pub use Rattle.ec_al.specs.States.{state_number, code_number}
 pub use Rattle.ec_al.specs.Transitions.{answer, requested_by, acknowledges}
 pub use Rattle.ec_al.specs.declared.state.State.{State}
@@ -46,12 +46,14 @@ pub use Rattle.ec_sync.specs.SyncManager.{SyncManager, no_manager, empty_manager
 pub use Rattle.ec_fmmu.specs.Applied.{LogicalSpan, inside_span}
 pub use Rattle.ec_fmmu.specs.Areas.{Area, Spans}
 pub use Rattle.ec_fmmu.specs.Sets.{target, source, readers, writers}
-pub use Rattle.ec_coe.specs.Answers.{Answer, answer_by, download_answer, value_of, upload_answer, reply_to}
+pub use Rattle.ec_coe.specs.Answers.{Answer, answer_by, download_answer, upload_answer, reply_to}
+pub use Rattle.ec_coe.specs.Emergency.{emergency_bytes}
 pub use Rattle.ec_coe.specs.Messages.{message_length, size_number, message_read, message_bytes, message_in, command_of, command_number, service_of, service_number}
-pub use Rattle.ec_coe.specs.Objects.{all_assigned, assigned, Assignment, indices, byte_value, word_value, output_assignment, input_assignment, has_some, Dictionary, identity_object, entry_number, long_value, assignment_values, pdo_values, device_name_object, face_values_of, send_room}
-pub use Rattle.ec_coe.specs.Replies.{reply_of, reply_by, response_in, abort_in}
+pub use Rattle.ec_coe.specs.Objects.{value_of, is_assignment, parameter_of, has_parameters, no_values_if, own_values, all_assigned, assigned, Assignment, indices, byte_value, word_value, output_assignment, input_assignment, has_some, Dictionary, identity_object, entry_number, long_value, assignment_values, pdo_values, device_name_object, face_values_of, send_room}
+pub use Rattle.ec_coe.specs.Replies.{reply_of, reply_by, response_in, abort_in, is_aside, is_unsized, sized_command, sized_message, free_reply_of}
+pub use Rattle.ec_coe.specs.SwitchedOn.{bare_dictionary, value_size, number_or_zero, first_value, first_values, new_dictionary}
 pub use Rattle.ec_coe.specs.ReplyBytes.{reply_bytes}
-pub use Rattle.ec_coe.specs.Transfers.{written_over, contains, distinct, value_or_abort, value_at, takes_value, is_open, with_value, with_outs, with_ins}
+pub use Rattle.ec_coe.specs.Transfers.{object_written, parameter_written, written_by, kept_value, uploaded_by, contains, distinct, value_or_abort, value_at, takes_value, is_open, with_value, with_outs, with_ins}
 pub use Rattle.ec_coe.specs.declared.abort_code.AbortCode.{AbortCode}
 pub use Rattle.ec_coe.specs.declared.message.Message.{Message}
 pub use Rattle.ec_coe.specs.declared.message.SdoCommand.{SdoCommand}
@@ -74,7 +76,7 @@ pub use Rattle.ec_slave.specs.Managers.{reads_under, writes_under, is_ungoverned
 pub use Rattle.ec_slave.specs.Meeting.{window_of, meets, slave_met, datagram_met, passes, Passed, IsPassed}
 pub use Rattle.ec_slave.specs.Physical.{Window, touches, byte_at, ram_byte, may_read_byte, may_write_byte, byte_read, updated, memory_written, is_missing, keeps, as_shown, numbered_byte, is_configured, settings_written, physical_value, physical_manager, physical_managers, physical_after, some_byte_read, is_written, some_byte_written}
 pub use Rattle.ec_slave.specs.Roles.{role_of, adp_after, is_reading, is_writing, is_joining}
-pub use Rattle.ec_slave.specs.Serving.{with_al, request_decided, read_finished, is_served, request_in, answer_to, bytes_to, message_served, served, dictionary_of, is_preop, has_mailbox, takes_reply, request_for, reply_counter, is_init, unlocked_empty, managers_entered, al_decided, is_awaiting, outputs_awaited, has_outputs}
+pub use Rattle.ec_slave.specs.Serving.{with_al, request_decided, read_finished, is_served, request_in, answer_to, bytes_to, message_served, served, dictionary_of, is_preop, has_mailbox, takes_reply, request_for, reply_counter, is_init, unlocked_empty, managers_entered, replies_entered, al_decided, is_slow, is_awaiting, outputs_awaited, has_outputs, has_room, sent, greets, greets_by, emergency_put, emergency_counted, managers_decided, replies_decided}
 use Rattle.ec_slave.specs.Sound.{IsSlave}
 pub use Rattle.ec_slave.specs.State.{SlaveState, manager_at, station_of, power_on, fmmus, Met, with_answer, with_memory, fmmus_of}
 use Rattle.ec_al.specs.Al as al
@@ -94,17 +96,19 @@ pub record IsSwitchedOn (kind : SlaveKind) (identity : Identity) (s : SlaveState
   pub link : s.link ≡ new_data_link kind.face
   pub outs : s.outs ≡ all_assigned kind.outputs
   pub ins : s.ins ≡ all_assigned kind.inputs
+  pub values : s.values ≡ first_values kind identity
 
 abbrev pub SlavesAreSwitchedOn : Type 0
 SlavesAreSwitchedOn = (kind : SlaveKind) (identity : Identity) → IsSwitchedOn kind identity (power_on kind identity)
 
 -- ---- a firmware step
 
--- what a step settles: no request waits, one for OP aside while outputs are awaited, and the SII isn't busy
+-- what a step settles: no request waits, one at slow firmware aside, and one for OP while outputs are awaited; and the SII isn't busy
 pub record Settles (s t : SlaveState) : Type 0 where
-  pub al : is_awaiting s.kind.hardware s ≡ false → t.al ≡ (if s.al.requested then al_decided s.kind.hardware s else s.al)
-  pub no_request : is_awaiting s.kind.hardware s ≡ false → t.al.requested ≡ false
-  pub awaits : is_awaiting s.kind.hardware s ≡ true → t.al ≡ s.al
+  pub al : is_slow s.kind.hardware s ≡ false → is_awaiting s.kind.hardware s ≡ false → t.al ≡ (if s.al.requested then al_decided s.kind.hardware s else s.al)
+  pub no_request : is_slow s.kind.hardware s ≡ false → is_awaiting s.kind.hardware s ≡ false → t.al.requested ≡ false
+  pub awaits : is_slow s.kind.hardware s ≡ false → is_awaiting s.kind.hardware s ≡ true → t.al ≡ s.al
+  pub slow : is_slow s.kind.hardware s ≡ true → t.al ≡ (if s.al.requested then waiting s.al else s.al)
   pub sii : t.sii ≡ port.stepped s.sii
   pub idle : t.sii.busy ≡ false
   pub image : t.sii.image ≡ s.sii.image
@@ -117,19 +121,22 @@ abbrev pub StepsHaveThreeParts : Type 0
 StepsHaveThreeParts = (s : SlaveState) → served s ≡ message_served (read_finished (request_decided s))
 
 -- A request that waits is decided, by the control word as it now stands; without one, and while outputs are awaited, nothing
--- changes.
+-- changes. At slow firmware it goes on waiting.
 pub record IsDecided (s t : SlaveState) : Type 0 where
   pub rests : s.al.requested ≡ false → t ≡ s
-  pub awaits : is_awaiting s.kind.hardware s ≡ true → t ≡ s
-  pub decides : s.al.requested ≡ true → is_awaiting s.kind.hardware s ≡ false → t ≡ with_al s (al_decided s.kind.hardware s)
+  pub slow : s.al.requested ≡ true → is_slow s.kind.hardware s ≡ true → t ≡ record s { al = waiting s.al }
+  pub awaits : is_slow s.kind.hardware s ≡ false → is_awaiting s.kind.hardware s ≡ true → t ≡ s
+  pub decides : s.al.requested ≡ true → is_slow s.kind.hardware s ≡ false → is_awaiting s.kind.hardware s ≡ false → t ≡ with_al s (al_decided s.kind.hardware s)
 
 abbrev pub RequestsAreDecided : Type 0
 RequestsAreDecided = (s : SlaveState) → IsDecided s (request_decided s)
 
--- A slave of a type that says nothing of real devices decides each request at once, by its checks.
+-- A slave of a type that says nothing of real devices decides each request at once, by its checks, and sends no emergency.
 pub record DecidesAtOnce (s : SlaveState) : Type 0 where
   pub decides : al_decided s.kind.hardware s ≡ al.decided s.al (control_word s) (checks_of s)
   pub at_once : is_awaiting s.kind.hardware s ≡ false
+  pub quick : is_slow s.kind.hardware s ≡ false
+  pub quiet : (a : Al) → greets_by s a ≡ false
 
 abbrev pub PlainTypesDecide : Type 0
 PlainTypesDecide = (s : SlaveState) → s.kind.hardware ≡ None → DecidesAtOnce s
@@ -152,7 +159,8 @@ pub record IsRead (s t : SlaveState) : Type 0 where
 abbrev pub ReadsAreFinished : Type 0
 ReadsAreFinished = (s : SlaveState) → IsRead s (read_finished s)
 
--- A message changes the two mailboxes, the assignments and the counter of the replies, and nothing else.
+-- A message changes the two mailboxes, the assignments, the parameters and the counter of the replies, and nothing else. A parameter
+-- keeps its length, and a fixed assignment stays.
 pub record KeepsBesideMessages (s t : SlaveState) : Type 0 where
   pub kind : t.kind ≡ s.kind
   pub identity : t.identity ≡ s.identity
@@ -167,6 +175,8 @@ pub record KeepsBesideMessages (s t : SlaveState) : Type 0 where
   pub others : (n : ℕ) → 2 ≤ n → manager_at t.managers n ≡ manager_at s.managers n
   pub out_slots : length t.outs.slots ≡ length s.outs.slots
   pub in_slots : length t.ins.slots ≡ length s.ins.slots
+  pub fixed : is_fixed s.kind.hardware ≡ true → (t.outs ≡ s.outs) × (t.ins ≡ s.ins)
+  pub sizes : map (λ (v : SdoValue). size_number v.size) t.values ≡ map (λ (v : SdoValue). size_number v.size) s.values
 
 abbrev pub MessagesKeep : Type 0
 MessagesKeep = (s : SlaveState) → KeepsBesideMessages s (message_served s)
@@ -181,12 +191,14 @@ pub record RestsWithoutMessages (s t : SlaveState) : Type 0 where
 abbrev pub MessagesRest : Type 0
 MessagesRest = (s : SlaveState) → RestsWithoutMessages s (message_served s)
 
--- A request is answered: it is taken out of manager 0, its answer lies in manager 1, and the assignments are the answer's.
+-- A request is answered: it is taken out of manager 0, its answer lies in manager 1, and assignments and parameters are the answer's.
 pub record IsAnswered (s : SlaveState) (r : Message) (t : SlaveState) : Type 0 where
   pub no_message : (manager_at t.managers 0).mail ≡ None
   pub reply : (manager_at t.managers 1).mail ≡ Some (padded (manager_at s.managers 1) (bytes_to s r))
   pub outs : t.outs ≡ (answer_to s r).dictionary.outs
   pub ins : t.ins ≡ (answer_to s r).dictionary.ins
+  pub values : t.values ≡ (answer_to s r).dictionary.values
+  pub counter : t.replies ≡ reply_counter s.replies
 
 abbrev pub RequestsAreAnswered : Type 0
 RequestsAreAnswered =
@@ -238,7 +250,7 @@ FewInputs = (s : SlaveState) → put_size s ≤ 2730
 
 -- ---- any datagram
 
--- what no datagram changes: what a slave is, its state, its assignments, how much there is of memory and managers, and the
+-- what no datagram changes: what a slave is, its state, its assignments and its parameters, how much there is of memory and managers, and the
 -- registers of FMMUs that it lacks; and it makes no manager await a value
 pub record KeepsInside (s t : SlaveState) : Type 0 where
   pub kind : t.kind ≡ s.kind
@@ -252,6 +264,7 @@ pub record KeepsInside (s t : SlaveState) : Type 0 where
   pub image : t.sii.image ≡ s.sii.image
   pub outs : t.outs ≡ s.outs
   pub ins : t.ins ≡ s.ins
+  pub values : t.values ≡ s.values
 
 abbrev pub DatagramsKeepTheInside : Type 0
 DatagramsKeepTheInside = (s : SlaveState) (d : Datagram) → KeepsInside s (slave_met s d)
@@ -370,6 +383,7 @@ pub record Wrote (w : Window) (s t : SlaveState) : Type 0 where
   pub link : t.link ≡ dl_written s.link w.from w.bytes
   pub outs : t.outs ≡ s.outs
   pub ins : t.ins ≡ s.ins
+  pub values : t.values ≡ s.values
 
 abbrev pub RegistersAreWritten : Type 0
 RegistersAreWritten = (s : SlaveState) (w : Window) → w.from + length w.bytes ≤ ram_start → Wrote w s (physical_after s false true w)
@@ -395,6 +409,12 @@ abbrev pub SiiConfigurationIsLeft : Type 0
 SiiConfigurationIsLeft =
     (s : SlaveState) (x : ℕ) → s.link.visible ≡ false → s.sii.address < 2 ^ 32
     → physical_after s false true (record { from = 0x0500; bytes = x ∷ [] }) ≡ s
+
+-- So it leaves one that was just switched on.
+abbrev pub FreshSlavesAreLeft : Type 0
+FreshSlavesAreLeft =
+    (kind : SlaveKind) (identity : Identity) (x : ℕ) → kind.face ≡ None
+    → physical_after (power_on kind identity) false true (record { from = 0x0500; bytes = x ∷ [] }) ≡ power_on kind identity
 
 -- every register may be read, and written as its row in the table of registers says
 pub record AreOpen (ms : List SyncManager) (touched : ℕ → Bool) (a : ℕ) : Type 0 where

@@ -23,6 +23,8 @@ pub record IsSlave (s : SlaveState) : Type 0 where
   pub in_slots : length s.ins.slots ≡ length s.kind.inputs
   pub out_count : s.outs.count ≤ length s.outs.slots
   pub in_count : s.ins.count ≤ length s.ins.slots
+  -- a value for each download of the type
+  pub parameters : length s.values ≡ length s.kind.init
 
 -- each number has eight bits
 abbrev pub AreBytes : List ℕ → Type 0

@@ -16,7 +16,9 @@ use Rattle.ec_al.specs.Al as al
 use Rattle.ec_dl.specs.DataLink.{DataLink, new_data_link}
 use Rattle.ec_sii.specs.SiiImage.{image_of}
 use Rattle.ec_sii.specs.Port.{Sii, idle_port}
+use Rattle.ec_coe.specs.declared.value.SdoValue.{SdoValue}
 use Rattle.ec_coe.specs.Objects.{Assignment, all_assigned}
+use Rattle.ec_coe.specs.SwitchedOn.{first_values}
 
 pub record SlaveState : Type 0 where
   -- the type that it is of
@@ -37,6 +39,8 @@ pub record SlaveState : Type 0 where
   -- the PDOs that are assigned, 0x1C12 (outputs) and 0x1C13 (inputs)
   pub outs : Assignment
   pub ins : Assignment
+  -- the values of the parameters: one for each download of the type, the first to an object holding the object's
+  pub values : List SdoValue
   -- the counter of its last mailbox reply, 0 before the first
   pub replies : ℕ
 
@@ -60,7 +64,8 @@ unfoldable pub memory_length : ℕ
 memory_length = ram_end
 
 -- A slave that was just switched on: every register that a datagram can write, and the RAM, are 0, the managers are empty,
--- the state is INIT without an error, and all PDOs of the type are assigned in order.
+-- the state is INIT without an error, all PDOs of the type are assigned in order, and each parameter has the value that its object
+-- has without one.
 unfoldable pub power_on : SlaveKind → Identity → SlaveState
 power_on kind identity = record {
   kind = kind;
@@ -72,6 +77,7 @@ power_on kind identity = record {
   link = new_data_link kind.face;
   outs = all_assigned kind.outputs;
   ins = all_assigned kind.inputs;
+  values = first_values kind identity;
   replies = 0;
 }
 

@@ -3,9 +3,10 @@
 use Rattle.std.specs.Prelude.{ℕ, zero, suc, ◌+◌, ◌==◌, ◌&&◌, not, ◌≡◌, ◌≤◌, List, [], ◌∷◌, ◌++◌, length, Bool, true, false, if◌then◌else◌, Option, Some, None, is_some, unwrap_or}
 use Rattle.std.specs.List.{All}
 use Rattle.ec_device.specs.declared.hardware.Hardware.{Hardware}
-use Rattle.ec_al.specs.Al.{is_operational}
+use Rattle.ec_al.specs.Al.{Al, is_operational}
 use Rattle.ec_al.specs.declared.state.State.{State}
 use Rattle.ec_coe.specs.declared.message.Message.{Message}
+use Rattle.ec_coe.specs.Emergency.{emergency_bytes}
 use Rattle.ec_frame.specs.declared.command.Command.{Command}
 use Rattle.ec_frame.specs.declared.command.Command.TheVariants.{Nop, Aprd, Apwr, Aprw, Fprd, Fpwr, Fprw, Brd, Bwr, Brw, Lrd, Lwr, Lrw, Armw, Frmw}
 use Rattle.ec_frame.specs.Datagram.{Datagram, adp_of}
@@ -20,7 +21,7 @@ use Rattle.ec_slave.specs.Logical.{span_of}
 use Rattle.ec_slave.specs.AgainstAll.{governs_among, value_among, bits_among}
 use Rattle.ec_slave.specs.Meeting.{slave_met, window_of}
 use Rattle.ec_slave.specs.Application.{input_put, output_got, output_taken, with_manager}
-use Rattle.ec_slave.specs.Serving.{served, is_init, is_preop, is_safeop, al_decided, has_outputs, is_awaiting, request_decided, read_finished, is_served, request_in, refusal_in, bytes_to}
+use Rattle.ec_slave.specs.Serving.{served, is_init, is_preop, is_safeop, reply_counter, al_decided, has_outputs, greets_by, replies_decided, is_slow, is_awaiting, request_decided, read_finished, is_served, request_in, refusal_in, bytes_to}
 use Rattle.ec_slave.specs.Faulting.{faulted}
 
 -- One manager after an access is as after one step: what counts as reaching its first and its last byte is that the
@@ -124,14 +125,24 @@ steps_awaited None outputs old new ms n = []
 steps_awaited (Some h) outputs old new ms n =
     if is_safeop new && not (is_safeop old) then to_one 2 (Await (h.has_firmware && outputs) ∷ []) ms n else []
 
--- what a decision that leads to a state does
-abbrev pub steps_to : SlaveState → State → ℕ → List Operation
-steps_to s new n =
-    steps_entered s.al.state new s.managers n ++ steps_awaited s.kind.hardware (has_outputs s) s.al.state new s.managers n
+-- an emergency is put into manager 1
+abbrev pub steps_greeted : Bool → ℕ → List SyncManager → ℕ → List Operation
+steps_greeted false replies ms n = []
+steps_greeted true replies ms n = to_one 1 (MessagePut (emergency_bytes (reply_counter replies)) ∷ []) ms n
+
+-- what a decision does
+abbrev pub steps_to : SlaveState → Al → ℕ → List Operation
+steps_to s a n =
+    (steps_entered s.al.state a.state s.managers n ++ steps_awaited s.kind.hardware (has_outputs s) s.al.state a.state s.managers n)
+    ++ steps_greeted (greets_by s a) (replies_decided s a) s.managers n
 
 abbrev pub steps_decided : SlaveState → ℕ → List Operation
 steps_decided s n =
-    if s.al.requested then (if is_awaiting s.kind.hardware s then [] else steps_to s (al_decided s.kind.hardware s).state n) else []
+    if s.al.requested
+    then (if is_slow s.kind.hardware s then []
+    else (if is_awaiting s.kind.hardware s then []
+    else steps_to s (al_decided s.kind.hardware s) n))
+    else []
 
 -- the bytes that a message is answered by, or refused
 abbrev pub bytes_back : SlaveState → Option (List ℕ) → Option Message → Option (List ℕ)

@@ -4,12 +4,15 @@ ghost use Rattle.std.specs.Prelude.{◌≡◌, ◌<◌, ◌^◌, ◌↔◌, leng
 ghost use Rattle.std.specs.Option.{option_copied};
 ghost use Rattle.ec_al.specs.declared.state.State.TheVariants.{Op};
 ghost use Rattle.ec_slave.specs.Checking.{checks_of, control_word as control_word_of, is_manager as is_manager_of, mailbox_check, process_check};
-ghost use Rattle.ec_slave.specs.Serving.{al_decided, awaited_by as awaited_of, awaited_if, awaits_by, has_outputs, is_awaiting as is_awaiting_of, managers_entered, outputs_awaited, replies_entered, read_finished, request_decided, served, unlocked_empty};
+ghost use Rattle.ec_slave.specs.Serving.{al_decided, awaited_by as awaited_of, awaited_if, awaits_by, emergency_counted, emergency_put, greets as greets_of, has_outputs, is_awaiting as is_awaiting_of, is_slow as is_slow_of, slow_by, managers_entered, outputs_awaited, replies_entered, read_finished, request_decided, served, unlocked_empty};
+ghost use Rattle.ec_slave.specs.State.{manager_at};
 ghost use Rattle.ec_slave.specs.Faulting.{faulted, locked_empty};
 
+use crate::mailbox::{has_room, takes_message};
 use crate::slave::Slave;
 use ec_al::{Checks, State};
-use ec_device::{Hardware, Mailbox};
+use ec_coe::emergency_bytes;
+use ec_device::{Hardware, Mailbox, SlaveType};
 use ec_regs::registers::AL_CONTROL;
 use ec_regs::{AlWord, CONTROL_INPUTS, CONTROL_MAILBOX_IN, CONTROL_MAILBOX_OUT, CONTROL_OUTPUTS};
 use ec_sync::SyncManager;
@@ -28,7 +31,7 @@ const INPUTS: u8 = CONTROL_INPUTS % 16;
 
 impl Slave {
     /// A step of the slave's firmware, in this order. It decides an AL request that waits, by the checks of the managers
-    /// against the type and the PDOs that are assigned. It finishes a read of the SII. It takes one mailbox message, and
+    /// against the type and the PDOs that are assigned, or lets it wait if it is slow. It finishes a read of the SII. It takes one mailbox message, and
     /// answers it, or refuses or drops it if it is no SDO request. It takes no memory.
     #[tactic(auto, unfolding(crate::specs::Serving::served))]
     pub fn serve(&mut self)
@@ -72,12 +75,16 @@ impl Slave {
         }
     }
 
-    /// Decides the AL request that waits. It stands apart so that a step in which none waits is short.
+    /// Decides the AL request that waits, or lets it wait. It stands apart so that a step in which none waits is short.
     #[inline(never)]
     fn decide_waiting(&mut self)
         requires { self.old.al.requested ≡ true }
         ensures { self.new ≡ request_decided self.old }
     {
+        if self.is_slow() {
+            self.al.wait();
+            return;
+        }
         let control = self.control_word();
         if self.is_awaiting(control) {
             return;
@@ -86,6 +93,17 @@ impl Slave {
         self.step_al(control);
         self.enter(old);
         self.await_outputs(old);
+        self.greet(old);
+    }
+
+    /// Whether the firmware lets the request wait for another step.
+    fn is_slow(&self) -> bool
+        ensures slow { result ≡ is_slow_of self.now.kind.hardware self.now }
+        ensures few { IsTrue result → self.now.al.waited < 255 }
+    {
+        let hardware = self.dictionary.kind().hardware();
+        let waited = self.al.waited();
+        lets_wait(hardware, waited)
     }
 
     /// Whether the firmware awaits outputs before it decides a request for OP by this control word: that of a type of real
@@ -137,6 +155,20 @@ impl Slave {
         await_if(&mut self.managers[2], is_awaited);
     }
 
+    /// Sends an emergency, if the type has one and PREOP was entered from INIT, the old state, with room in an empty mailbox.
+    fn greet(&mut self, old: State)
+        ensures { let s = self.old in self.new ≡ record s {
+          managers = emergency_put (greets_of s.kind old s.al.state (manager_at s.managers 1)) s.replies s.managers;
+          replies = emergency_counted (greets_of s.kind old s.al.state (manager_at s.managers 1)) s.replies;
+        } }
+    {
+        let new = self.al.state();
+        if greets(self.dictionary.kind(), old, new, &self.managers[1]) {
+            let bytes = emergency_bytes(self.replies % 7 + 1);
+            self.put_message(&bytes);
+        }
+    }
+
     /// Decides the AL request that waits, if one does.
     #[tactic(auto, unfolding(crate::specs::Serving::request_decided))]
     fn decide_request(&mut self)
@@ -169,6 +201,29 @@ impl Slave {
         let at = AL_CONTROL;
         self.memory[at] as u16 + 256 * self.memory[at + 1] as u16
     }
+}
+
+/// Whether firmware lets a request wait for another step, which so many let wait.
+fn lets_wait(hardware: Option<&Hardware>, waited: u8) -> bool
+    ensures slow { result ≡ slow_by (option_copied hardware.entry) waited }
+    ensures few { IsTrue result → waited < 255 }
+{
+    match hardware {
+        None => false,
+        Some(hardware) => hardware.has_firmware && waited < hardware.slow,
+    }
+}
+
+/// Whether an emergency is sent through this manager, as a state is entered from the old one.
+fn greets(kind: &SlaveType, old: State, new: State, manager: &SyncManager) -> bool
+    ensures { result ≡ greets_of kind.now old new manager.now }
+{
+    kind.has_emergency()
+        && new == State::PreOp
+        && old == State::Init
+        && kind.mailbox().is_some()
+        && takes_message(manager)
+        && has_room(manager)
 }
 
 /// Whether firmware awaits outputs before it decides a request by this control word.

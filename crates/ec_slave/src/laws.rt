@@ -8,11 +8,11 @@ ghost use Rattle.ec_slave.specs.MeetingLaws.{LogicalBitByBit, ManagersAfterWrite
 ghost use Rattle.ec_slave.specs.AgainstAll.{LogicalAgainstAll, PhysicalAgainstAll};
 ghost use Rattle.ec_slave.specs.Showing.{ReadsShowTheRun, SlavesShowWholeValues};
 ghost use Rattle.ec_slave.specs.Steps.{AccessesAreSteps, ManagersGoByRuns};
-ghost use Rattle.ec_slave.specs.HardwareLaws.{MissingFmmusReadZero, OutputsAreAwaitedOutsideOp, OutputsComeFirst, SlavesTakeNames, StatusIsCopied, SwitchedOnAwaitsNothing};
+ghost use Rattle.ec_slave.specs.HardwareLaws.{EmergenciesComeFirst, MissingFmmusReadZero, OutputsAreAwaitedOutsideOp, OutputsComeFirst, RequestsWaitLong, SlavesTakeNames, StatusIsCopied, SwitchedOnAwaitsNothing};
 ghost use Rattle.ec_slave.specs.LogicalLaws.{BroadcastLaw, ExchangeLaw, MappedLaw, MissesLaw};
 ghost use Rattle.ec_slave.specs.Interface.{SlavesAreSwitchedOn, SwitchedOnWhole, StepsHaveThreeParts, StepsSettle, RequestsAreDecided, PlainTypesDecide, ChecksAreOfManagers, ReadsAreFinished, MessagesKeep, MessagesRest, RequestsAreAnswered};
 ghost use Rattle.ec_slave.specs.Interface.{FaultsAreInOp, ApplicationsGoByBytes, ApplicationsGoWhole, FewInputs, DatagramsKeepTheInside, ValuesStayWhole, DatagramsGoOn, DatagramsStay, DatagramsStayPast, WritesMeet, ReadsMeet, LogicalCommandsMeet, OutputsArePublished};
-ghost use Rattle.ec_slave.specs.Interface.{RegistersAreWritten, RegistersAreRead, ManagersAside, ManagersAreCleared, SiiConfigurationIsLeft, RegistersAreOpen, SlavesShowThemselves, UpdatedByIndex, UpdatedWhole, RamIsGoverned, ManagersAreAccessed, WholeValuesAreTheData, AccessesLeave};
+ghost use Rattle.ec_slave.specs.Interface.{RegistersAreWritten, RegistersAreRead, ManagersAside, ManagersAreCleared, SiiConfigurationIsLeft, FreshSlavesAreLeft, RegistersAreOpen, SlavesShowThemselves, UpdatedByIndex, UpdatedWhole, RamIsGoverned, ManagersAreAccessed, WholeValuesAreTheData, AccessesLeave};
 ghost use Rattle.ec_slave.specs.FirmwareLaws.{AssignmentsStay, FirstReplyIsOne, PowerOnAssigns, RestsQuietly, ServesKeepAssignments, ServesKeepBuffers, ServesKeepSettings, StatesAreEntered};
 
 /// A datagram for another station address passes, and changes nothing.
@@ -165,6 +165,18 @@ pub fn devices_enter_states()
     ensures outputs { OutputsComeFirst }
 {}
 
+/// Slow firmware decides a request by the step that finds that as many before it let the request wait as the type says.
+#[tactic(auto, using(crate::proofs::Always::SlowAndLoud::waits_long))]
+pub fn requests_wait_long()
+    ensures { RequestsWaitLong }
+{}
+
+/// An emergency lies in the mailbox as PREOP is entered from INIT, with counter 1, and no message is taken before it is read.
+#[tactic(auto, using(crate::proofs::Always::SlowAndLoud::emergencies_first))]
+pub fn emergencies_come_first()
+    ensures { EmergenciesComeFirst }
+{}
+
 /// In OP no outputs are awaited, and never in a slave without firmware of real devices, whatever happens to it.
 #[tactic(auto, using(crate::proofs::Always::HardwareLaws::nothing_awaited, crate::proofs::Always::HardwareLaws::stays_outside))]
 pub fn outputs_are_awaited_outside_op()
@@ -185,13 +197,13 @@ pub fn states_are_entered()
     ensures { StatesAreEntered }
 {}
 
-/// After PREOP was entered from INIT, the first reply has number 1.
+/// After PREOP was entered from INIT, the first reply has number 1, or 2 if an emergency was sent.
 #[tactic(auto, using(crate::proofs::FirmwareRuns::StatesAreEntered::first_is_one))]
 pub fn first_reply_is_one()
     ensures { FirstReplyIsOne }
 {}
 
-/// An assignment changes only in PREOP, and stays a list of the type's own PDOs, with none of them twice and with at most
+/// An assignment changes only in PREOP, one that is fixed not at all; and it stays a list of the type's own PDOs, with none of them twice and with at most
 /// 2048 bits.
 #[tactic(auto, using(crate::proofs::FirmwareRuns::ServesKeepAssignments::assignments_served))]
 pub fn serves_keep_assignments()
@@ -284,6 +296,7 @@ pub fn registers_are_written()
     ensures open { RegistersAreOpen }
     ensures cleared { ManagersAreCleared }
     ensures left { SiiConfigurationIsLeft }
+    ensures fresh { FreshSlavesAreLeft }
 {}
 
 /// What the registers of the AL status and of the SII read.

@@ -4,11 +4,12 @@ ghost use Rattle.std.specs.Prelude.{◌≡◌, is_some, option_map, true};
 ghost use Rattle.ec_sync.specs.SyncManager.{message_in, message_taken};
 ghost use Rattle.ec_slave.specs.State.{manager_at};
 ghost use Rattle.ec_slave.specs.Application.{with_manager};
-ghost use Rattle.ec_slave.specs.Serving.{has_mailbox as has_mailbox_in, takes_reply, is_preop as is_preop_state, is_served as is_served_now, message_served, replied, request_in, refuses as refuses_in, refusal_in, refused, refusal_given};
+ghost use Rattle.ec_slave.specs.Serving.{has_mailbox as has_mailbox_in, takes_reply, is_preop as is_preop_state, is_served as is_served_now, message_served, replied, request_in, refuses as refuses_in, refusal_in, has_room as has_room_of, sent, refusal_given};
 
 use crate::slave::Slave;
 use ec_al::State;
 use ec_coe::{MESSAGE_LENGTH, Message, RefusalBytes, Service, read_message, refuse};
+use ec_sync::SyncManager;
 
 /// Whether the state is PREOP.
 fn is_preop(state: State) -> bool
@@ -18,6 +19,20 @@ fn is_preop(state: State) -> bool
         State::PreOp => true,
         State::Init | State::SafeOp | State::Op => false,
     }
+}
+
+/// Whether a manager takes a message of the slave: an enabled, empty mailbox that the ring reads.
+pub(crate) fn takes_message(manager: &SyncManager) -> bool
+    ensures { result ≡ takes_reply manager.now }
+{
+    manager.may_put_message(0)
+}
+
+/// Whether a message with an SDO fits a manager.
+pub(crate) fn has_room(manager: &SyncManager) -> bool
+    ensures { result ≡ has_room_of manager.now }
+{
+    manager.settings().length as usize >= MESSAGE_LENGTH
 }
 
 impl Slave {
@@ -53,16 +68,16 @@ impl Slave {
         self.managers[0].message().is_some()
     }
 
-    /// Whether the reply can lie in manager 1: an enabled, empty mailbox that the ring reads.
+    /// Whether a message can lie in manager 1: an enabled, empty mailbox that the ring reads.
     fn can_reply(&self) -> bool
         ensures { result ≡ takes_reply (manager_at self.now.managers 1) }
     {
-        self.managers[1].may_put_message(0)
+        takes_message(&self.managers[1])
     }
 
-    /// Puts a refusal into manager 1, and counts it as a reply.
-    fn put_refusal(&mut self, bytes: &[u8])
-        ensures { self.new ≡ refused self.old bytes.now }
+    /// Puts a message into manager 1, and counts it.
+    pub(crate) fn put_message(&mut self, bytes: &[u8])
+        ensures { self.new ≡ sent self.old bytes.now }
     {
         self.managers[1].mailbox_put(bytes);
         self.replies = self.replies % 7 + 1;
@@ -83,8 +98,7 @@ impl Slave {
     fn refuses(&self) -> bool
         ensures { result ≡ refuses_in self.now }
     {
-        let has_room = self.managers[1].settings().length as usize >= MESSAGE_LENGTH;
-        self.dictionary.kind().face().is_some() && has_room
+        self.dictionary.kind().face().is_some() && has_room(&self.managers[1])
     }
 
     /// Puts the answer to a request into manager 1, and counts it.
@@ -106,8 +120,8 @@ impl Slave {
         ensures { result ≡ request_in self.now }
     {
         let message = read_message(self.managers[0].message()?).ok()?;
-        let has_room = self.managers[1].settings().length as usize >= MESSAGE_LENGTH;
-        (message.service == Service::Request && has_room).then_some(message)
+        let fits = has_room(&self.managers[1]);
+        (message.service == Service::Request && fits).then_some(message)
     }
 
     /// Whether messages are answered: in every state but INIT, by a type with a mailbox.
@@ -141,7 +155,7 @@ impl Slave {
         let refusal = self.refusal();
         self.take_message();
         if let Some(refusal) = refusal {
-            self.put_refusal(refusal.as_slice());
+            self.put_message(refusal.as_slice());
         }
     }
 }

@@ -5,7 +5,7 @@ ghost use Rattle.ec_regs.specs.Memory.{al_status, ram_start, ram_end, sync_manag
 ghost use Rattle.ec_sync.specs.SyncManager.{no_manager};
 ghost use Rattle.ec_sii.specs.SiiImage.{image_of};
 ghost use Rattle.ec_sii.specs.Port.{idle_port};
-ghost use Rattle.ec_coe.specs.Objects.{new_dictionary};
+ghost use Rattle.ec_coe.specs.SwitchedOn.{new_dictionary};
 ghost use Rattle.ec_sync.specs.Governing.{governor as governor_of};
 ghost use Rattle.ec_slave.specs.Physical.{byte_at, numbered_byte, register_byte};
 ghost use Rattle.ec_slave.specs.State.{memory_length, power_on, station_of};
@@ -37,7 +37,7 @@ const MANAGERS_SIZE: usize = SYNC_MANAGERS_END - SYNC_MANAGERS;
 /// A simulated slave.
 #[derive(Drop)]
 pub struct Slave {
-    // its type, its identity and the PDOs that are assigned
+    // its type, its identity, the PDOs that are assigned and its parameters
     pub(crate) dictionary: Dictionary,
     pub(crate) memory: Vec<u8>,
     // as the registers in `memory` state them
@@ -66,6 +66,7 @@ impl Model for Slave {
       link = s.link;
       outs = s.dictionary.outs;
       ins = s.dictionary.ins;
+      values = s.dictionary.values;
       replies = s.replies;
     } };
 

@@ -6,7 +6,7 @@ use crate::slave::Slave;
 
 impl Slave {
     /// Does nothing. Its contract says what holds of every slave, whatever was done to it: the
-    /// lengths of its memory and of its managers' values, the image of its SII, and its slots.
+    /// lengths of its memory and of its managers' values, the image of its SII, its slots and its parameters.
     pub fn is_sound(&self)
         ensures { IsSlave self.now }
     {

@@ -5,7 +5,7 @@ use Rattle.ec_frame.specs.declared.command.Command.TheVariants.{Nop}
 use Rattle.ec_frame.specs.Building.{new_datagram}
 use Rattle.ec_frame.specs.Datagram.{Datagram}
 use Rattle.ec_start.specs.declared.action.Action.{Action}
-use Rattle.ec_start.specs.declared.action.Action.TheVariants.{CountSlaves, AskInit, AwaitInit, ClearFmmus, ClearManagers, ClearStations, NameSlave, AskWord, AwaitWord, SetManager, SetFmmu, AskState, AwaitState, SendRequest, AwaitReply, AwaitInitState, ClearAllFmmus, ClearAllManagers, AssignSii, ClearSiiError, AwaitCleanInit, FeedPart}
+use Rattle.ec_start.specs.declared.action.Action.TheVariants.{CountSlaves, AskInit, AwaitInit, ClearFmmus, ClearManagers, ClearStations, NameSlave, AskWord, AwaitWord, SetManager, SetFmmu, AskState, AwaitState, SendRequest, AwaitReply, AwaitFreeReply, AwaitInitState, ClearAllFmmus, ClearAllManagers, AssignSii, ClearSiiError, AwaitCleanInit, FeedPart}
 use Rattle.ec_frame.specs.Names.{name_bytes, name_datagram}
 use Rattle.ec_start.specs.Actions.{datagram_of, frame_of}
 
@@ -26,6 +26,7 @@ datagram_is (AskState i state) number = refl
 datagram_is (AwaitState i state) number = refl
 datagram_is (SendRequest i before b r) number = refl
 datagram_is (AwaitReply i b r) number = refl
+datagram_is (AwaitFreeReply i b r) number = refl
 datagram_is AwaitInitState number = refl
 datagram_is ClearAllFmmus number = refl
 datagram_is ClearAllManagers number = refl

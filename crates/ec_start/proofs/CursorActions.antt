@@ -1,5 +1,5 @@
 -- The actions ahead of a cursor: what the steps of the cursor do to them.
-use Rattle.std.proofs.Common.{◌≡◌, ◌≢◌, ℕ, zero, suc, ◌+◌, ◌-◌, ◌/◌, ◌%◌, ◌<◌, ◌≤◌, ◌==◌, ◌&&◌, List, [], ◌∷◌, ◌++◌, length, drop, get_or, slice_get, Option, Some, None, Bool, true, false, not, nat_lt, option_map, refl, sym, ap, ◌∙◌, arith, append_assoc, append-nil}
+use Rattle.std.proofs.Common.{◌≡◌, ◌≢◌, ℕ, zero, suc, ◌+◌, ◌-◌, ◌/◌, ◌%◌, ◌<◌, ◌≤◌, ◌==◌, ◌&&◌, List, [], ◌∷◌, ◌++◌, length, drop, get_or, slice_get, Option, Some, None, is_some, Bool, true, false, not, nat_lt, option_map, refl, sym, ap, ◌∙◌, arith, append_assoc, append-nil}
 use Rattle.std.proofs.Common.{inl, inr, if◌then◌else◌}
 use Rattle.std.proofs.lemmas.Bool.{cases_Bool, ltb-false, ltb-true}
 use Rattle.std.proofs.lemmas.List.{drop_all, drop_more}
@@ -7,12 +7,12 @@ use Rattle.ec_device.specs.declared.slave_type.Mailbox.{Mailbox}
 use Rattle.ec_link.specs.declared.settings.SlavePlan.{SlavePlan}
 use Rattle.ec_start.specs.declared.action.SdoRequest.{SdoRequest}
 use Rattle.ec_start.specs.declared.action.Action.{Action}
-use Rattle.ec_start.specs.declared.action.Action.TheVariants.{SendRequest, AwaitReply}
+use Rattle.ec_start.specs.declared.action.Action.TheVariants.{SendRequest}
 use Rattle.ec_start.specs.declared.script.Stretch.{Stretch}
 use Rattle.ec_start.specs.declared.script.Stretch.TheVariants.{Opening, Naming, Settling, Identifying, Closing, Mailboxes, ToPreOp, Talking, Mapping, ToSafeOp, ToOp}
 use Rattle.ec_start.specs.declared.script.Cursor.{Cursor}
 use Rattle.ec_start.specs.Plans.{settings_at, fmmu_at}
-use Rattle.ec_start.specs.Scripts.{each_slave, script, requests, exchanged, talked, mapped, manager_set, fmmu_set}
+use Rattle.ec_start.specs.Scripts.{each_slave, script, requests, reply_awaited, exchanged, talked, mapped, manager_set, fmmu_set}
 use Rattle.ec_start.specs.Ahead.{share, share_of, is_for_all, share_at, following, whole, later, beyond, ahead, behind, rank, shares_left, somes, choices, manager_chosen, fmmu_chosen}
 
 not_left : (a b : Bool) → not a && b ≡ true → a ≡ false
@@ -208,41 +208,41 @@ script_ahead (p ∷ ps) = refl
 -- ---- shares by place
 
 -- the requests of a slave, each sent and awaited
-talk_none : (i : ℕ) (b : Mailbox) (n : ℕ) (rs : List SdoRequest) (k : ℕ) → slice_get rs (k / 2) ≡ None → slice_get (exchanged i b n rs) k ≡ None
-talk_none i b n [] k e = refl
-talk_none i b n (r ∷ rs) zero e = absurd (let f : Some r ≡ None = e in cc)
-talk_none i b n (r ∷ rs) (suc zero) e = absurd (let f : Some r ≡ None = e in cc)
-talk_none i b n (r ∷ rs) (suc (suc k)) e = let h : suc (suc k) / 2 ≡ suc (k / 2) = omega arith in talk_none i b (n + 1) rs k (rw h at e)
+talk_none : (h : Bool) (i : ℕ) (b : Mailbox) (n : ℕ) (rs : List SdoRequest) (k : ℕ) → slice_get rs (k / 2) ≡ None → slice_get (exchanged h i b n rs) k ≡ None
+talk_none h i b n [] k e = refl
+talk_none h i b n (r ∷ rs) zero e = absurd (let f : Some r ≡ None = e in cc)
+talk_none h i b n (r ∷ rs) (suc zero) e = absurd (let f : Some r ≡ None = e in cc)
+talk_none h i b n (r ∷ rs) (suc (suc k)) e = let half : suc (suc k) / 2 ≡ suc (k / 2) = omega arith in talk_none h i b (n + 1) rs k (rw half at e)
 
-talk_sent : (i : ℕ) (b : Mailbox) (n : ℕ) (rs : List SdoRequest) (k : ℕ) (r : SdoRequest) → slice_get rs (k / 2) ≡ Some r → k % 2 ≡ 0 → slice_get (exchanged i b n rs) k ≡ Some (SendRequest i (n + k / 2) b r)
-talk_sent i b n [] k r e even = absurd (let f : None ≡ Some r = e in cc)
-talk_sent i b n (x ∷ rs) zero r e even = let f : Some x ≡ Some r = e in let g : x ≡ r = cc in let z : n ≡ n + 0 / 2 = omega arith in rw (sym g) (ap (λ m. Some (SendRequest i m b x)) z)
-talk_sent i b n (x ∷ rs) (suc zero) r e even = absurd (omega (arith, even))
-talk_sent i b n (x ∷ rs) (suc (suc k)) r e even =
-    let h : suc (suc k) / 2 ≡ suc (k / 2) = omega arith in
+talk_sent : (h : Bool) (i : ℕ) (b : Mailbox) (n : ℕ) (rs : List SdoRequest) (k : ℕ) (r : SdoRequest) → slice_get rs (k / 2) ≡ Some r → k % 2 ≡ 0 → slice_get (exchanged h i b n rs) k ≡ Some (SendRequest i (n + k / 2) b r)
+talk_sent h i b n [] k r e even = absurd (let f : None ≡ Some r = e in cc)
+talk_sent h i b n (x ∷ rs) zero r e even = let f : Some x ≡ Some r = e in let g : x ≡ r = cc in let z : n ≡ n + 0 / 2 = omega arith in rw (sym g) (ap (λ m. Some (SendRequest i m b x)) z)
+talk_sent h i b n (x ∷ rs) (suc zero) r e even = absurd (omega (arith, even))
+talk_sent h i b n (x ∷ rs) (suc (suc k)) r e even =
+    let half : suc (suc k) / 2 ≡ suc (k / 2) = omega arith in
     let z : n + 1 + k / 2 ≡ n + suc (suc k) / 2 = omega arith in
-    talk_sent i b (n + 1) rs k r (rw h at e) (omega (arith, even)) ∙ ap (λ m. Some (SendRequest i m b r)) z
+    talk_sent h i b (n + 1) rs k r (rw half at e) (omega (arith, even)) ∙ ap (λ m. Some (SendRequest i m b r)) z
 
-talk_awaited : (i : ℕ) (b : Mailbox) (n : ℕ) (rs : List SdoRequest) (k : ℕ) (r : SdoRequest) → slice_get rs (k / 2) ≡ Some r → k % 2 ≢ 0 → slice_get (exchanged i b n rs) k ≡ Some (AwaitReply i b r)
-talk_awaited i b n [] k r e odd = absurd (let f : None ≡ Some r = e in cc)
-talk_awaited i b n (x ∷ rs) zero r e odd = absurd (odd refl)
-talk_awaited i b n (x ∷ rs) (suc zero) r e odd = let f : Some x ≡ Some r = e in let g : x ≡ r = cc in rw (sym g) refl
-talk_awaited i b n (x ∷ rs) (suc (suc k)) r e odd =
-    let h : suc (suc k) / 2 ≡ suc (k / 2) = omega arith in
-    talk_awaited i b (n + 1) rs k r (rw h at e) (λ z. odd (omega (arith, z)))
+talk_awaited : (h : Bool) (i : ℕ) (b : Mailbox) (n : ℕ) (rs : List SdoRequest) (k : ℕ) (r : SdoRequest) → slice_get rs (k / 2) ≡ Some r → k % 2 ≢ 0 → slice_get (exchanged h i b n rs) k ≡ Some (reply_awaited h i b r)
+talk_awaited h i b n [] k r e odd = absurd (let f : None ≡ Some r = e in cc)
+talk_awaited h i b n (x ∷ rs) zero r e odd = absurd (odd refl)
+talk_awaited h i b n (x ∷ rs) (suc zero) r e odd = let f : Some x ≡ Some r = e in let g : x ≡ r = cc in rw (sym g) refl
+talk_awaited h i b n (x ∷ rs) (suc (suc k)) r e odd =
+    let half : suc (suc k) / 2 ≡ suc (k / 2) = omega arith in
+    talk_awaited h i b (n + 1) rs k r (rw half at e) (λ z. odd (omega (arith, z)))
 
 pub talked_none : (i : ℕ) (p : SlavePlan) (m : Option Mailbox) (b : Mailbox) (k : ℕ) → Some b ≡ m → None ≡ slice_get (requests p) (k / 2) → None ≡ slice_get (talked i p m) k
-talked_none i p m b k is e = sym (talk_none i b 0 (requests p) k (sym e)) ∙ ap (λ (o : Option Mailbox). slice_get (talked i p o) k) is
+talked_none i p m b k is e = sym (talk_none (is_some p.kind.hardware) i b 0 (requests p) k (sym e)) ∙ ap (λ (o : Option Mailbox). slice_get (talked i p o) k) is
 
 pub talked_sent : (i : ℕ) (p : SlavePlan) (m : Option Mailbox) (b : Mailbox) (k : ℕ) (r : SdoRequest) → Some b ≡ m → Some r ≡ slice_get (requests p) (k / 2) → k % 2 ≡ 0
     → Some (SendRequest i (k / 2) b r) ≡ slice_get (talked i p m) k
 talked_sent i p m b k r is e even =
     let z : k / 2 ≡ 0 + k / 2 = omega arith in
-    ap (λ (n : ℕ). Some (SendRequest i n b r)) z ∙ (sym (talk_sent i b 0 (requests p) k r (sym e) even) ∙ ap (λ (o : Option Mailbox). slice_get (talked i p o) k) is)
+    ap (λ (n : ℕ). Some (SendRequest i n b r)) z ∙ (sym (talk_sent (is_some p.kind.hardware) i b 0 (requests p) k r (sym e) even) ∙ ap (λ (o : Option Mailbox). slice_get (talked i p o) k) is)
 
 pub talked_awaited : (i : ℕ) (p : SlavePlan) (m : Option Mailbox) (b : Mailbox) (k : ℕ) (r : SdoRequest) → Some b ≡ m → Some r ≡ slice_get (requests p) (k / 2) → k % 2 ≢ 0
-    → Some (AwaitReply i b r) ≡ slice_get (talked i p m) k
-talked_awaited i p m b k r is e odd = sym (talk_awaited i b 0 (requests p) k r (sym e) odd) ∙ ap (λ (o : Option Mailbox). slice_get (talked i p o) k) is
+    → Some (reply_awaited (is_some p.kind.hardware) i b r) ≡ slice_get (talked i p m) k
+talked_awaited i p m b k r is e odd = sym (talk_awaited (is_some p.kind.hardware) i b 0 (requests p) k r (sym e) odd) ∙ ap (λ (o : Option Mailbox). slice_get (talked i p o) k) is
 
 -- the choices that are made
 some_first : (x : Option Action) (xs : List (Option Action)) (k : ℕ) → x ≡ None → slice_get (somes (x ∷ xs)) k ≡ slice_get (somes xs) k

@@ -9,7 +9,7 @@ use Rattle.ec_link.specs.declared.plan.ExpectedCounters.TheVariants.{Lrw, Split}
 use Rattle.ec_link.specs.Plan.{PlanState, predicted_of}
 use Rattle.ec_start.specs.declared.action.Feed.{Feed}
 use Rattle.ec_start.specs.Scripts.{is_hardware}
-use Rattle.ec_start.specs.Feeding.{feed_over, feeds_from, feeds_of}
+use Rattle.ec_start.specs.Feeding.{HardwareIsFed, feed_over, feeds_from, feeds_of}
 
 pub plain_feeds : (p : PlanState) → is_hardware p.slaves ≡ false → feeds_of p ≡ []
 unfolding feeds_of
@@ -18,6 +18,9 @@ plain_feeds p f = if_false (is_hardware p.slaves) (feeds_from p 0 p.parts) [] f
 pub hardware_feeds : (p : PlanState) → is_hardware p.slaves ≡ true → feeds_of p ≡ feeds_from p 0 p.parts
 unfolding feeds_of
 hardware_feeds p t = if_true (is_hardware p.slaves) (feeds_from p 0 p.parts) [] t
+
+pub hardware_is_fed : HardwareIsFed
+hardware_is_fed p = record { plain = plain_feeds p; hardware = hardware_feeds p }
 
 -- ---- part after part
 

@@ -1,25 +1,29 @@
 -- The laws.
-use Rattle.std.proofs.Common.{◌≡◌, ℕ, ◌+◌, ◌<◌, ◌==◌, List, [], ◌∷◌, ◌++◌, Bool, true, false, Option, Some, None, refl, sym, subst, arith, append_assoc, length, map, if◌then◌else◌}
+use Rattle.std.proofs.Common.{◌≡◌, ℕ, zero, suc, ◌+◌, ◌<◌, ◌==◌, List, [], ◌∷◌, ◌++◌, Bool, true, false, Option, Some, None, refl, sym, ◌∙◌, subst, arith, append_assoc, append-nil, length, drop, slice_get, map, if◌then◌else◌}
 use Rattle.std.proofs.Common.{inl, inr}
 use Rattle.std.specs.List.{flat_map}
 use Rattle.std.proofs.lemmas.Bool.{cases_Bool, ne_eqb, eq-eqb, eqb-false}
+use Rattle.ec_device.specs.declared.parameter.Parameter.{Parameter}
 use Rattle.ec_device.specs.declared.slave_type.Entry.{Entry}
 use Rattle.ec_device.specs.declared.slave_type.Pdo.{Pdo}
+use Rattle.ec_device.specs.Hardware.{is_fixed}
 use Rattle.ec_device.specs.Objects.{pdo_at}
+use Rattle.ec_link.specs.declared.settings.SlavePlan.{SlavePlan}
 use Rattle.ec_coe.specs.Objects.{output_assignment, input_assignment, has_some}
 use Rattle.ec_start.specs.declared.action.SdoRequest.{SdoRequest}
+use Rattle.ec_start.specs.declared.aside.Heard.{Heard}
 use Rattle.ec_start.specs.declared.verdict.Verdict.{Verdict}
-use Rattle.ec_start.specs.declared.verdict.Verdict.TheVariants.{Next, Word, Fed, Again, Fails}
+use Rattle.ec_start.specs.declared.verdict.Verdict.TheVariants.{Next, Word, Fed, Again, Aside, Fails}
 use Rattle.ec_start.specs.declared.phase.Phase.{Phase}
 use Rattle.ec_start.specs.declared.phase.Phase.TheVariants.{Idle, Sent, Ready, Failed}
 use Rattle.ec_start.specs.declared.phase.NextFrame.TheVariants.{Ended}
 use Rattle.ec_start.specs.declared.error.StartError.TheVariants.{TooSlow, NumbersSpent}
-use Rattle.ec_start.specs.Scripts.{entries_read, pdo_read, slots_written, count_written, assignment_written}
+use Rattle.ec_start.specs.Scripts.{downloads as download_of, parameter_value, parameters_written, entries_read, pdo_read, slots_written, count_written, assignment_written, slots_read, assignment_read, assignment_of, pdo_requests}
 use Rattle.ec_frame.specs.Datagram.{Datagram}
 use Rattle.ec_start.specs.Verdicts.{verdict}
-use Rattle.ec_start.specs.Running.{StartState, Shape, shape, second, action_of, type_of, taken, begun, is_ended, asked_by, next_frame_by, given_up_by, judged, max_polls, last_number, sending, IsStartTaken}
-use Rattle.ec_start.specs.Seeking.{uploads_of, downloads_of}
-use Rattle.ec_start.specs.Laws.{IsScriptOfThree, AreUploads, AreDownloads, UploadsComeFirst, CountersRunToSeven, EndedStays, HasSamePlan, PlansStay, PollsEnd, ForeignChangesNothing, FramesAreAnswered}
+use Rattle.ec_start.specs.Running.{StartState, Shape, shape, second, action_of, type_of, taken, begun, is_ended, asked_by, next_frame_by, given_up_by, polled, judged, max_polls, last_number, sending, IsStartTaken}
+use Rattle.ec_start.specs.Seeking.{mappings_of, assignments_of}
+use Rattle.ec_start.specs.Laws.{IsScriptOfThree, AreUploads, AreDownloads, IsUploadsFirst, UploadsComeFirst, MappingsAreReadBehindParameters, FixedIsOnlyRead, CountersRunToSeven, EndedStays, HasSamePlan, TakenKeepsThePlan, PlansStay, PollsEnd, ForeignChangesNothing, FramesAreAnswered}
 
 pub script_of_three : IsScriptOfThree
 script_of_three = record { steps = refl; ninth = refl; tenth = refl }
@@ -58,15 +62,72 @@ assignment_down : (object : ℕ) (xs : List ℕ) (b : Bool) → AreDownloads (as
 assignment_down object xs false = tt
 assignment_down object xs true = (refl, count_down object xs)
 
+slots_up : (object k : ℕ) (xs : List ℕ) → AreUploads (slots_read object k xs)
+slots_up object k [] = tt
+slots_up object k (x ∷ xs) = (refl, slots_up object (k + 1) xs)
+
+assignment_up : (object : ℕ) (xs : List ℕ) (b : Bool) → AreUploads (assignment_read object xs b)
+assignment_up object xs false = tt
+assignment_up object xs true = (refl, slots_up object 1 xs)
+
+mappings_up : (p : SlavePlan) → AreUploads (mappings_of p)
+mappings_up p =
+    both_uploads (flat_map (λ index. pdo_read (pdo_at p.kind.outputs index)) p.outputs) (flat_map (λ index. pdo_read (pdo_at p.kind.inputs index)) p.inputs) (pdos_up p.kind.outputs p.outputs) (pdos_up p.kind.inputs p.inputs)
+
+-- both assignments, written or read
+abbrev both_assigned : SlavePlan → Bool → List SdoRequest
+both_assigned p fixed = assignment_of fixed output_assignment p.outputs (has_some p.kind.outputs) ++ assignment_of fixed input_assignment p.inputs (has_some p.kind.inputs)
+
+written_down : (p : SlavePlan) → AreDownloads (both_assigned p false)
+written_down p =
+    both_downloads (assignment_written output_assignment p.outputs (has_some p.kind.outputs)) (assignment_written input_assignment p.inputs (has_some p.kind.inputs))
+    (assignment_down output_assignment p.outputs (has_some p.kind.outputs)) (assignment_down input_assignment p.inputs (has_some p.kind.inputs))
+
+read_up : (p : SlavePlan) → AreUploads (both_assigned p true)
+read_up p =
+    both_uploads (assignment_read output_assignment p.outputs (has_some p.kind.outputs)) (assignment_read input_assignment p.inputs (has_some p.kind.inputs))
+    (assignment_up output_assignment p.outputs (has_some p.kind.outputs)) (assignment_up input_assignment p.inputs (has_some p.kind.inputs))
+
+whole : (p : SlavePlan) (fixed : Bool) → mappings_of p ++ both_assigned p fixed
+    ≡ flat_map (λ index. pdo_read (pdo_at p.kind.outputs index)) p.outputs ++ (flat_map (λ index. pdo_read (pdo_at p.kind.inputs index)) p.inputs ++ both_assigned p fixed)
+whole p fixed = append_assoc (flat_map (λ index. pdo_read (pdo_at p.kind.outputs index)) p.outputs) (flat_map (λ index. pdo_read (pdo_at p.kind.inputs index)) p.inputs) (both_assigned p fixed)
+
+first_by : (p : SlavePlan) (fixed : Bool) → is_fixed p.kind.hardware ≡ fixed → IsUploadsFirst (pdo_requests p)
+first_by p false e =
+    rw e (record { first = mappings_of p; then_downloads = both_assigned p false; all = sym (whole p false); uploads = mappings_up p; downloads = written_down p })
+first_by p true e =
+    rw e (record {
+      first = mappings_of p ++ both_assigned p true;
+      then_downloads = [];
+      all = sym (append-nil (mappings_of p ++ both_assigned p true) ∙ whole p true);
+      uploads = both_uploads (mappings_of p) (both_assigned p true) (mappings_up p) (read_up p);
+      downloads = tt;
+    })
+
 pub uploads_come_first : UploadsComeFirst
-uploads_come_first p = record {
-  first = uploads_of p;
-  then_downloads = downloads_of p;
-  all = sym (append_assoc (flat_map (λ index. pdo_read (pdo_at p.kind.outputs index)) p.outputs) (flat_map (λ index. pdo_read (pdo_at p.kind.inputs index)) p.inputs) (downloads_of p));
-  uploads = both_uploads (flat_map (λ index. pdo_read (pdo_at p.kind.outputs index)) p.outputs) (flat_map (λ index. pdo_read (pdo_at p.kind.inputs index)) p.inputs) (pdos_up p.kind.outputs p.outputs) (pdos_up p.kind.inputs p.inputs);
-  downloads = both_downloads (assignment_written output_assignment p.outputs (has_some p.kind.outputs)) (assignment_written input_assignment p.inputs (has_some p.kind.inputs))
-      (assignment_down output_assignment p.outputs (has_some p.kind.outputs)) (assignment_down input_assignment p.inputs (has_some p.kind.inputs));
+uploads_come_first p none = rw none (first_by p (is_fixed p.kind.hardware) refl)
+
+written_at : (qs : List Parameter) (rest : List SdoRequest) (k : ℕ) (q : Parameter) → slice_get qs k ≡ Some q
+    → slice_get (parameters_written qs ++ rest) k ≡ Some (download_of q.index q.subindex (parameter_value q))
+written_at [] rest k q e = absurd (let f : None ≡ Some q = e in cc)
+written_at (x ∷ qs) rest zero q e = let f : Some x ≡ Some q = e in let g : x ≡ q = cc in rw (sym g) refl
+written_at (x ∷ qs) rest (suc k) q e = written_at qs rest k q e
+
+behind_written : (qs : List Parameter) (rest : List SdoRequest) → drop (length qs) (parameters_written qs ++ rest) ≡ rest
+behind_written [] rest = refl
+behind_written (q ∷ qs) rest = behind_written qs rest
+
+pub mappings_are_read : MappingsAreReadBehindParameters
+mappings_are_read p = record {
+  written = written_at p.kind.init (pdo_requests p);
+  behind = subst IsUploadsFirst (sym (behind_written p.kind.init (pdo_requests p))) (first_by p (is_fixed p.kind.hardware) refl);
 }
+
+only_read : (p : SlavePlan) → is_fixed p.kind.hardware ≡ true → AreUploads (pdo_requests p)
+only_read p e = rw e (subst AreUploads (whole p true) (both_uploads (mappings_of p) (both_assigned p true) (mappings_up p) (read_up p)))
+
+pub fixed_is_only_read : FixedIsOnlyRead
+fixed_is_only_read p e = subst AreUploads (sym (behind_written p.kind.init (pdo_requests p))) (only_read p e)
 
 -- ---- counters
 
@@ -123,18 +184,22 @@ begun_plan : (s : StartState) (number : ℕ) → HasSamePlan s (begun s.plan s.f
 unfolding begun
 begun_plan s number = record { plan = refl; feeds = refl }
 
-judged_plan : (s : StartState) (v : Verdict) → HasSamePlan s (judged s v)
-judged_plan s Next = record { plan = refl; feeds = refl }
-judged_plan s (Word value) = record { plan = refl; feeds = refl }
-judged_plan s Fed = record { plan = refl; feeds = refl }
-judged_plan s (Fails error) = record { plan = refl; feeds = refl }
-judged_plan s Again = go (s.polls + 1 == max_polls)
+polled_plan : (s : StartState) → HasSamePlan s (polled s)
+polled_plan s = go (s.polls + 1 == max_polls)
   where
     go : (b : Bool) → HasSamePlan s (if b then record s { phase = Failed (TooSlow s.place) } else record s { fed = 0; polls = s.polls + 1; phase = Idle })
     go true = record { plan = refl; feeds = refl }
     go false = record { plan = refl; feeds = refl }
 
-taken_same : (s : StartState) (d : Datagram) → HasSamePlan s (taken s d)
+judged_plan : (s : StartState) (v : Verdict) → HasSamePlan s (judged s v)
+judged_plan s Next = record { plan = refl; feeds = refl }
+judged_plan s (Word value) = record { plan = refl; feeds = refl }
+judged_plan s Fed = record { plan = refl; feeds = refl }
+judged_plan s (Fails error) = record { plan = refl; feeds = refl }
+judged_plan s Again = polled_plan s
+judged_plan s (Aside heard) = let h = polled_plan (record s { heard = Some heard }) in record { plan = h.plan; feeds = h.feeds }
+
+pub taken_same : TakenKeepsThePlan
 taken_same s d = judged_plan s (verdict (length s.plan) s.place s.seen (type_of s.plan) (action_of s) d)
 
 pub taken_plan : (s : StartState) (d : Datagram) → (taken s d).plan ≡ s.plan
@@ -165,15 +230,19 @@ plans_stay s = record {
 
 -- ---- polls
 
+few_polled : (s : StartState) → s.polls < max_polls → (polled s).polls < max_polls
+few_polled s lt = elim (cases_Bool (s.polls + 1 == max_polls)) [
+  | inl t ↦ rw t lt
+  | inr f ↦ rw f (let ne = eqb-false (s.polls + 1) max_polls f in omega (arith, ne, lt))
+]
+
 few_polls : (s : StartState) (v : Verdict) → s.polls < max_polls → (judged s v).polls < max_polls
 few_polls s Next lt = omega arith
 few_polls s (Word value) lt = omega arith
 few_polls s Fed lt = lt
 few_polls s (Fails error) lt = lt
-few_polls s Again lt = elim (cases_Bool (s.polls + 1 == max_polls)) [
-  | inl t ↦ rw t lt
-  | inr f ↦ rw f (let ne = eqb-false (s.polls + 1) max_polls f in omega (arith, ne, lt))
-]
+few_polls s Again lt = few_polled s lt
+few_polls s (Aside heard) lt = few_polled (record s { heard = Some heard }) lt
 
 last_poll : (s : StartState) → s.polls + 1 ≡ max_polls → (judged s Again).phase ≡ Failed (TooSlow s.place)
 last_poll s e = let t : (s.polls + 1 == max_polls) ≡ true = eq-eqb (s.polls + 1) max_polls e in rw t refl

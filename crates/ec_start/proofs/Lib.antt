@@ -24,3 +24,5 @@ pub mod ScriptLengths
 pub mod Feedings
 -- without `hardware` a start-up sends what it sent before
 pub mod PlainLaw
+-- what is wrong at a mailbox ends the start-up
+pub mod MailboxFaults

@@ -1,10 +1,12 @@
 -- The script of a plan that can be started up is short: a request has a subindex of one byte, so there are few of them.
-use Rattle.std.proofs.Common.{ℕ, ◌+◌, ◌*◌, ◌<◌, ◌≤◌, ◌==◌, suc, List, [], ◌∷◌, ◌++◌, length, get_or, Bool, true, false, if◌then◌else◌, Option, Some, None, arith, length-append}
+use Rattle.std.proofs.Common.{ℕ, ◌+◌, ◌*◌, ◌<◌, ◌≤◌, ◌==◌, suc, List, [], ◌∷◌, ◌++◌, length, get_or, Bool, true, false, if◌then◌else◌, Option, Some, None, is_some, arith, length-append}
 use Rattle.std.specs.List.{flat_map}
+use Rattle.ec_device.specs.declared.parameter.Parameter.{Parameter}
 use Rattle.ec_device.specs.declared.slave_type.Entry.{Entry}
 use Rattle.ec_device.specs.declared.slave_type.Pdo.{Pdo}
 use Rattle.ec_device.specs.declared.slave_type.Mailbox.{Mailbox}
 use Rattle.ec_device.specs.declared.hardware.Hardware.{Hardware}
+use Rattle.ec_device.specs.Hardware.{is_fixed}
 use Rattle.ec_device.specs.Objects.{pdo_at}
 use Rattle.ec_al.specs.declared.state.State.TheVariants.{PreOp, SafeOp, Op}
 use Rattle.ec_coe.specs.Objects.{byte_value, output_assignment, input_assignment, has_some}
@@ -16,7 +18,7 @@ use Rattle.ec_start.specs.declared.action.Action.TheVariants.{AwaitCleanInit}
 use Rattle.ec_start.specs.Plans.{settings_at, fmmu_at}
 use Rattle.ec_start.specs.Planned.{AreRequests, IsStartable}
 use Rattle.ec_start.specs.Interface.{ScriptsAreShort}
-use Rattle.ec_start.specs.Scripts.{downloads, entries_read, pdo_read, slots_written, assignment_written, requests, is_hardware, named, settled_by, settled, identified, mailbox_set, raised, exchanged, talked, set_manager, manager_set, fmmu_set, mapped, each_slave, opened, closed}
+use Rattle.ec_start.specs.Scripts.{downloads, parameters_written, entries_read, pdo_read, slots_written, assignment_written, slots_read, assignment_of, pdo_requests, requests, is_hardware, named, settled_by, settled, identified, mailbox_set, raised, exchanged, talked, set_manager, manager_set, fmmu_set, mapped, each_slave, opened, closed}
 use Rattle.ec_start.proofs.Assigned.{has_few}
 
 both_few : {X : Type 0} (xs ys : List X) {a b : ℕ} → length xs ≤ a → length ys ≤ b → length (xs ++ ys) ≤ a + b
@@ -63,31 +65,52 @@ written_few object (x ∷ xs) true =
     let few = both_few (slots_written object 1 (x ∷ xs)) count {b = 1} (slots_many object 1 (x ∷ xs)) (omega arith) in
     omega (arith, few)
 
-requests_few : (p : SlavePlan) → IsStartable p → length (requests p) ≤ 200000
-requests_few p h =
+reads_many : (object k : ℕ) (xs : List ℕ) → length (slots_read object k xs) ≤ length xs
+reads_many object k [] = omega arith
+reads_many object k (x ∷ xs) = let rest = reads_many object (k + 1) xs in omega (arith, rest)
+
+assigned_few : (fixed : Bool) (object : ℕ) (xs : List ℕ) (b : Bool) → length (assignment_of fixed object xs b) ≤ length xs + 2
+assigned_few false object xs b = written_few object xs b
+assigned_few true object xs false = omega arith
+assigned_few true object xs true = let few = reads_many object 1 xs in omega (arith, few)
+
+parameters_few : (qs : List Parameter) → length (parameters_written qs) ≤ length qs
+parameters_few [] = omega arith
+parameters_few (q ∷ qs) = let rest = parameters_few qs in omega (arith, rest)
+
+pdo_requests_few : (p : SlavePlan) → IsStartable p → length (pdo_requests p) ≤ 200000
+pdo_requests_few p h =
     let outs : List SdoRequest = flat_map (λ index. pdo_read (pdo_at p.kind.outputs index)) p.outputs in
     let ins : List SdoRequest = flat_map (λ index. pdo_read (pdo_at p.kind.inputs index)) p.inputs in
-    let written : List SdoRequest = assignment_written output_assignment p.outputs (has_some p.kind.outputs) in
-    let last : List SdoRequest = assignment_written input_assignment p.inputs (has_some p.kind.inputs) in
-    let first = read_few p.kind.outputs p.outputs (front_half outs (ins ++ (written ++ last)) h.requests) in
-    let second = read_few p.kind.inputs p.inputs (front_half ins (written ++ last) (back_half outs (ins ++ (written ++ last)) h.requests)) in
-    let third = written_few output_assignment p.outputs (has_some p.kind.outputs) in
-    let fourth = written_few input_assignment p.inputs (has_some p.kind.inputs) in
+    let written : List SdoRequest = assignment_of (is_fixed p.kind.hardware) output_assignment p.outputs (has_some p.kind.outputs) in
+    let last : List SdoRequest = assignment_of (is_fixed p.kind.hardware) input_assignment p.inputs (has_some p.kind.inputs) in
+    let good : AreRequests (outs ++ (ins ++ (written ++ last))) = back_half (parameters_written p.kind.init) (pdo_requests p) h.requests in
+    let first = read_few p.kind.outputs p.outputs (front_half outs (ins ++ (written ++ last)) good) in
+    let second = read_few p.kind.inputs p.inputs (front_half ins (written ++ last) (back_half outs (ins ++ (written ++ last)) good)) in
+    let third = assigned_few (is_fixed p.kind.hardware) output_assignment p.outputs (has_some p.kind.outputs) in
+    let fourth = assigned_few (is_fixed p.kind.hardware) input_assignment p.inputs (has_some p.kind.inputs) in
     let all = both_few outs (ins ++ (written ++ last)) first (both_few ins (written ++ last) second (both_few written last third fourth)) in
     let few = has_few p h in
     let few_outs = few.outputs in
     let few_ins = few.inputs in
     omega (arith, all, few_outs, few_ins)
 
+requests_few : (p : SlavePlan) → IsStartable p → length (requests p) ≤ 200128
+requests_few p h =
+    let some = h.parameters.few in
+    let first = parameters_few p.kind.init in
+    let all = both_few (parameters_written p.kind.init) (pdo_requests p) first (pdo_requests_few p h) in
+    omega (arith, all, some)
+
 -- ---- the actions of one slave
 
-exchanged_few : (i : ℕ) (b : Mailbox) (before : ℕ) (rs : List SdoRequest) → length (exchanged i b before rs) ≤ 2 * length rs
-exchanged_few i b before [] = omega arith
-exchanged_few i b before (r ∷ rs) = let rest = exchanged_few i b (before + 1) rs in omega (arith, rest)
+exchanged_few : (hardware : Bool) (i : ℕ) (b : Mailbox) (before : ℕ) (rs : List SdoRequest) → length (exchanged hardware i b before rs) ≤ 2 * length rs
+exchanged_few hardware i b before [] = omega arith
+exchanged_few hardware i b before (r ∷ rs) = let rest = exchanged_few hardware i b (before + 1) rs in omega (arith, rest)
 
-talked_few : (i : ℕ) (p : SlavePlan) (o : Option Mailbox) → IsStartable p → length (talked i p o) ≤ 400000
+talked_few : (i : ℕ) (p : SlavePlan) (o : Option Mailbox) → IsStartable p → length (talked i p o) ≤ 400256
 talked_few i p None h = omega arith
-talked_few i p (Some b) h = omega (arith, exchanged_few i b 0 (requests p), requests_few p h)
+talked_few i p (Some b) h = omega (arith, exchanged_few (is_some p.kind.hardware) i b 0 (requests p), requests_few p h)
 
 set_few : (i : ℕ) (p : SlavePlan) (o : Option Mailbox) → length (mailbox_set i p o) ≤ 2
 set_few i p None = omega arith
@@ -155,7 +178,7 @@ scripts_are_short (p ∷ ps) h =
     let from_safes = both_few safes ups (each_few (raised SafeOp) 2 0 qs (λ j k l. omega arith)) (each_few (raised Op) 2 0 qs (λ j k l. omega arith)) in
     let from_maps = both_few maps (safes ++ ups) (each_few mapped 4 0 qs (λ j k l. mapped_few j (get_or qs k no_slave))) from_safes in
     let from_talks = both_few talks (maps ++ (safes ++ ups))
-    (each_few (λ i x. talked i x x.kind.mailbox) 400000 0 qs (λ j k l. talked_few j (get_or qs k no_slave) (get_or qs k no_slave).kind.mailbox (h k l))) from_maps in
+    (each_few (λ i x. talked i x x.kind.mailbox) 400256 0 qs (λ j k l. talked_few j (get_or qs k no_slave) (get_or qs k no_slave).kind.mailbox (h k l))) from_maps in
     let from_raises = both_few raises (talks ++ (maps ++ (safes ++ ups))) (each_few (raised PreOp) 2 0 qs (λ j k l. omega arith)) from_talks in
     let from_sets = both_few sets (raises ++ (talks ++ (maps ++ (safes ++ ups))))
     (each_few (λ i x. mailbox_set i x x.kind.mailbox) 2 0 qs (λ j k l. set_few j (get_or qs k no_slave) (get_or qs k no_slave).kind.mailbox)) from_raises in

@@ -1,5 +1,5 @@
 -- A slave of a plan, of a type of its table, can be started up.
-use Rattle.std.proofs.Common.{◌≡◌, ℕ, zero, suc, ◌+◌, ◌<◌, ◌≤◌, ◌==◌, ◌⊎◌, Bool, true, false, if◌then◌else◌, List, [], ◌∷◌, ◌++◌, length, get_or, refl, sym, ap, ◌∙◌, subst, arith, inl, inr, Some, None, Option, eqb, All}
+use Rattle.std.proofs.Common.{◌≡◌, ℕ, zero, suc, ◌+◌, ◌*◌, ◌^◌, ◌<◌, ◌≤◌, ◌==◌, ◌⊎◌, Bool, true, false, if◌then◌else◌, List, [], ◌∷◌, ◌++◌, length, get_or, refl, sym, ap, ◌∙◌, subst, arith, inl, inr, Some, None, Option, eqb, All}
 use Rattle.std.specs.List.{flat_map}
 use Rattle.std.proofs.lemmas.Bool.{cases_Bool, cases_lt, false≢true}
 use Rattle.ec_bits.specs.Bits.{within, bytes_of_bits}
@@ -7,10 +7,14 @@ use Rattle.ec_bits.proofs.AnyLaws.{within_true}
 use Rattle.ec_regs.specs.declared.manager.SyncManagerSettings.{SyncManagerSettings}
 use Rattle.ec_device.specs.declared.slave_type.Mailbox.{Mailbox}
 use Rattle.ec_device.specs.declared.slave_type.Entry.{Entry}
+use Rattle.ec_device.specs.declared.parameter.Parameter.{Parameter}
+use Rattle.ec_device.specs.declared.parameter.ParameterSize.{ParameterSize}
+use Rattle.ec_device.specs.declared.parameter.ParameterSize.TheVariants.{One, Two, Four}
+use Rattle.ec_device.specs.Parameters.{IsParameter, bit_count}
 use Rattle.ec_device.specs.declared.slave_type.Pdo.{Pdo}
 use Rattle.ec_regs.specs.Managers.{no_settings, area_settings, is_set, span, mailbox_out_control, mailbox_in_control}
 use Rattle.ec_device.specs.declared.hardware.Hardware.{Hardware}
-use Rattle.ec_device.specs.Hardware.{IsHardware, fmmu_count, in_manager, out_manager}
+use Rattle.ec_device.specs.Hardware.{IsHardware, is_fixed, is_assignable, fmmu_count, in_manager, out_manager}
 use Rattle.ec_device.proofs.Naming.{numbered_law}
 use Rattle.std.specs.Option.{ForSome}
 use Rattle.ec_device.specs.Types.{IsMailbox, IsPdo, ArePdos, first_output_index, first_input_index}
@@ -19,10 +23,12 @@ use Rattle.ec_table.specs.Sound as table
 use Rattle.ec_link.specs.SlavePlan.{process_manager, receive_manager, send_manager}
 use Rattle.ec_link.specs.Sound.{manager_of, fmmu_of}
 use Rattle.ec_coe.specs.Objects.{has_some, entry_number, byte_value, word_value, long_value, output_assignment, input_assignment}
+use Rattle.ec_coe.specs.Messages.{size_number}
+use Rattle.ec_coe.specs.SwitchedOn.{value_size}
 use Rattle.ec_coe.specs.declared.value.SdoValue.{SdoValue}
 use Rattle.ec_device.specs.Objects.{pdo_at}
 use Rattle.ec_start.specs.declared.action.SdoRequest.{SdoRequest}
-use Rattle.ec_start.specs.Scripts.{uploads, downloads, entries_read, pdo_read, slots_written, count_written, assignment_written}
+use Rattle.ec_start.specs.Scripts.{uploads, downloads, parameter_value, parameters_written, entries_read, pdo_read, slots_written, count_written, assignment_written, slots_read, assignment_of, pdo_requests}
 use Rattle.ec_start.specs.Planned.{AreMailboxes, IsRequest, AreRequests}
 use Rattle.ec_start.specs.Interface.{PlannedSlavesAreStartable}
 
@@ -73,6 +79,27 @@ written-good : (object : ℕ) (is : List ℕ) (some : Bool) → object < 65536 �
 written-good object is false a b h = tt
 written-good object is true a b h = (set_byte object 0 0 a (omega arith) (omega arith), count-good object is a b h)
 
+read-slots-good : (object k : ℕ) (is : List ℕ) → object < 65536 → k + length is ≤ 256 → AreRequests (slots_read object k is)
+read-slots-good object k [] a b = tt
+read-slots-good object k (i ∷ is) a b = (uploaded object k (word_value i) a (omega (arith, b)), read-slots-good object (k + 1) is a (omega (arith, b)))
+
+assigned-good : (fixed : Bool) (object : ℕ) (is : List ℕ) (some : Bool) → object < 65536 → length is ≤ 16 → ((j d : ℕ) → j < length is → get_or is j d < 65536) → AreRequests (assignment_of fixed object is some)
+assigned-good false object is some a b h = written-good object is some a b h
+assigned-good true object is false a b h = tt
+assigned-good true object is true a b h = (uploaded object 0 (byte_value (length is)) a (omega arith), read-slots-good object 1 is a (omega (arith, b)))
+
+-- a parameter has the bits of its size
+fits-size : (size : ParameterSize) (value : ℕ) → value < 2 ^ bit_count size → value < 2 ^ (8 * size_number (value_size size))
+fits-size One value h = h
+fits-size Two value h = h
+fits-size Four value h = h
+
+parameters-good : (qs : List Parameter) → All IsParameter qs → AreRequests (parameters_written qs)
+parameters-good [] h = tt
+parameters-good (q ∷ qs) h =
+    let one = h 0 q (omega arith) in
+    (record { index = one.index; subindex = one.subindex; transfer = fits-size q.size q.value one.value }, parameters-good qs (λ k d l. h (suc k) d (omega (arith, l))))
+
 -- ---- an assignment
 
 index-low : (first : ℕ) (ps : List Pdo) → first + 512 ≤ 65536 → All (IsPdo first) ps → (k x : ℕ) → k < length (indices_of ps) → get_or (indices_of ps) k x < 65536
@@ -80,15 +107,15 @@ index-low first [] low h k x l = absurd (omega (arith, l))
 index-low first (p ∷ ps) low h zero x l = let one = h 0 p (omega arith) in omega (arith, one.below, low)
 index-low first (p ∷ ps) low h (suc k) x l = index-low first ps low (λ j e b. h (suc j) e (omega (arith, b))) k x (omega (arith, l))
 
-low-assigned : (first : ℕ) (mailbox : Option Mailbox) (ps : List Pdo) (is : List ℕ) → first + 512 ≤ 65536 → ArePdos first ps → table.IsAssignment mailbox ps is → (j e : ℕ) → j < length is → get_or is j e < 65536
-low-assigned first mailbox ps is low h a j e l =
+low-assigned : (first : ℕ) (assignable : Bool) (ps : List Pdo) (is : List ℕ) → first + 512 ≤ 65536 → ArePdos first ps → table.IsAssignment assignable ps is → (j e : ℕ) → j < length is → get_or is j e < 65536
+low-assigned first assignable ps is low h a j e l =
     let c = a.known j e l in
     let small = index-low first ps low h.each c.0 (get_or is j e) c.1 in omega (arith, small, c.2)
 
-none-assigned : (mailbox : Option Mailbox) (ps : List Pdo) (is : List ℕ) → table.IsAssignment mailbox ps is → has_some ps ≡ false → is ≡ []
-none-assigned mailbox [] [] a e = refl
-none-assigned mailbox [] (i ∷ is) a e = absurd (let c = a.known 0 i (omega arith) in omega (arith, c.1))
-none-assigned mailbox (p ∷ ps) is a e = absurd (false≢true (sym e))
+none-assigned : (assignable : Bool) (ps : List Pdo) (is : List ℕ) → table.IsAssignment assignable ps is → has_some ps ≡ false → is ≡ []
+none-assigned assignable [] [] a e = refl
+none-assigned assignable [] (i ∷ is) a e = absurd (let c = a.known 0 i (omega arith) in omega (arith, c.1))
+none-assigned assignable (p ∷ ps) is a e = absurd (false≢true (sym e))
 
 -- ---- managers and FMMUs
 
@@ -173,11 +200,13 @@ startable x ms listed type plain =
       numbered = numbered_law x.kind.mailbox x.kind.hardware type.hardware;
       has_fmmus = enough-fmmus x.kind.mailbox x.kind.hardware type.hardware;
       faceless = type.faceless;
-      requests = good-append (flat_map (λ index. pdo_read (pdo_at x.kind.outputs index)) x.outputs) _ (read-good first_output_index x.kind.outputs (omega arith) outs.each x.outputs)
+      requests = good-append (parameters_written x.kind.init) (pdo_requests x) (parameters-good x.kind.init type.parameters.each)
+          (good-append (flat_map (λ index. pdo_read (pdo_at x.kind.outputs index)) x.outputs) _ (read-good first_output_index x.kind.outputs (omega arith) outs.each x.outputs)
           (good-append (flat_map (λ index. pdo_read (pdo_at x.kind.inputs index)) x.inputs) _ (read-good first_input_index x.kind.inputs (omega arith) ins.each x.inputs)
-          (good-append (assignment_written output_assignment x.outputs (has_some x.kind.outputs)) _ (written-good output_assignment x.outputs (has_some x.kind.outputs) (omega arith) few_outs (low-assigned first_output_index x.kind.mailbox x.kind.outputs x.outputs (omega arith) outs type.outputs))
-          (written-good input_assignment x.inputs (has_some x.kind.inputs) (omega arith) few_ins (low-assigned first_input_index x.kind.mailbox x.kind.inputs x.inputs (omega arith) ins type.inputs))));
+          (good-append (assignment_of (is_fixed x.kind.hardware) output_assignment x.outputs (has_some x.kind.outputs)) _ (assigned-good (is_fixed x.kind.hardware) output_assignment x.outputs (has_some x.kind.outputs) (omega arith) few_outs (low-assigned first_output_index (is_assignable x.kind.mailbox x.kind.hardware) x.kind.outputs x.outputs (omega arith) outs type.outputs))
+          (assigned-good (is_fixed x.kind.hardware) input_assignment x.inputs (has_some x.kind.inputs) (omega arith) few_ins (low-assigned first_input_index (is_assignable x.kind.mailbox x.kind.hardware) x.kind.inputs x.inputs (omega arith) ins type.inputs)))));
+      parameters = type.parameters;
       all_assigned = λ e. (type.outputs.fixed e, type.inputs.fixed e);
-      no_outs = none-assigned x.kind.mailbox x.kind.outputs x.outputs type.outputs;
-      no_ins = none-assigned x.kind.mailbox x.kind.inputs x.inputs type.inputs;
+      no_outs = none-assigned (is_assignable x.kind.mailbox x.kind.hardware) x.kind.outputs x.outputs type.outputs;
+      no_ins = none-assigned (is_assignable x.kind.mailbox x.kind.hardware) x.kind.inputs x.inputs type.inputs;
     }

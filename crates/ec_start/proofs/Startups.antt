@@ -10,7 +10,7 @@ use Rattle.ec_device.specs.declared.slave_type.Device.{Device}
 use Rattle.ec_start.specs.declared.verdict.WantedDevice.{WantedDevice}
 use Rattle.ec_link.specs.declared.settings.SlavePlan.{SlavePlan}
 use Rattle.ec_start.specs.declared.action.Action.{Action}
-use Rattle.ec_start.specs.declared.action.Action.TheVariants.{CountSlaves, AskInit, AwaitInit, ClearFmmus, ClearManagers, ClearStations, NameSlave, AskWord, AwaitWord, SetManager, SetFmmu, AskState, AwaitState, SendRequest, AwaitReply, AwaitInitState, ClearAllFmmus, ClearAllManagers, AssignSii, ClearSiiError, AwaitCleanInit, FeedPart}
+use Rattle.ec_start.specs.declared.action.Action.TheVariants.{CountSlaves, AskInit, AwaitInit, ClearFmmus, ClearManagers, ClearStations, NameSlave, AskWord, AwaitWord, SetManager, SetFmmu, AskState, AwaitState, SendRequest, AwaitReply, AwaitFreeReply, AwaitInitState, ClearAllFmmus, ClearAllManagers, AssignSii, ClearSiiError, AwaitCleanInit, FeedPart}
 use Rattle.ec_start.specs.declared.action.Feed.{Feed}
 use Rattle.ec_start.specs.declared.phase.Phase.{Phase}
 use Rattle.ec_start.specs.declared.phase.Phase.TheVariants.{Idle, Sent, Ready, Failed}
@@ -127,6 +127,7 @@ shown_else s (AskState i state) value ne = refl
 shown_else s (AwaitState i state) value ne = refl
 shown_else s (SendRequest i before b r) value ne = refl
 shown_else s (AwaitReply i b r) value ne = refl
+shown_else s (AwaitFreeReply i b r) value ne = refl
 shown_else s AwaitInitState value ne = refl
 shown_else s ClearAllFmmus value ne = refl
 shown_else s ClearAllManagers value ne = refl
@@ -153,6 +154,7 @@ shown_feed s (SetManager i k m r) (Some f) value t = refl
 shown_feed s (SetFmmu i k m start) (Some f) value t = refl
 shown_feed s (SendRequest i before b r) (Some f) value t = refl
 shown_feed s (AwaitReply i b r) (Some f) value t = refl
+shown_feed s (AwaitFreeReply i b r) (Some f) value t = refl
 shown_feed s AwaitInitState (Some f) value t = refl
 shown_feed s ClearAllFmmus (Some f) value t = refl
 shown_feed s ClearAllManagers (Some f) value t = refl
@@ -196,6 +198,7 @@ verdict_of n step s types (AskState i state) d = refl
 verdict_of n step s types (AwaitState i state) d = refl
 verdict_of n step s types (SendRequest i before b r) d = refl
 verdict_of n step s types (AwaitReply i b r) d = refl
+verdict_of n step s types (AwaitFreeReply i b r) d = refl
 verdict_of n step s types AwaitInitState d = refl
 verdict_of n step s types ClearAllFmmus d = refl
 verdict_of n step s types ClearAllManagers d = refl

@@ -24,7 +24,7 @@ use Rattle.ec_start.specs.declared.action.SdoRequest.{SdoRequest}
 use Rattle.ec_start.specs.declared.action.SiiAccess.{SiiAccess}
 use Rattle.ec_start.specs.declared.action.SiiAccess.TheVariants.{Master, Device, Forced}
 use Rattle.ec_start.specs.declared.action.Action.{Action}
-use Rattle.ec_start.specs.declared.action.Action.TheVariants.{CountSlaves, AskInit, AwaitInit, ClearFmmus, ClearManagers, ClearStations, NameSlave, AskWord, AwaitWord, SetManager, SetFmmu, AskState, AwaitState, SendRequest, AwaitReply, AwaitInitState, ClearAllFmmus, ClearAllManagers, AssignSii, ClearSiiError, AwaitCleanInit, FeedPart}
+use Rattle.ec_start.specs.declared.action.Action.TheVariants.{CountSlaves, AskInit, AwaitInit, ClearFmmus, ClearManagers, ClearStations, NameSlave, AskWord, AwaitWord, SetManager, SetFmmu, AskState, AwaitState, SendRequest, AwaitReply, AwaitFreeReply, AwaitInitState, ClearAllFmmus, ClearAllManagers, AssignSii, ClearSiiError, AwaitCleanInit, FeedPart}
 
 -- the slave that an action is for; none if it is for all slaves
 abbrev pub slave_of_action : Action → Option ℕ
@@ -38,6 +38,7 @@ slave_of_action (AskState i state) = Some i
 slave_of_action (AwaitState i state) = Some i
 slave_of_action (SendRequest i before b r) = Some i
 slave_of_action (AwaitReply i b r) = Some i
+slave_of_action (AwaitFreeReply i b r) = Some i
 slave_of_action _ = None
 
 -- the station address of slave i
@@ -106,6 +107,7 @@ datagram_of (AwaitState i state) number = sent Fprd (station i) al_status (zeros
 datagram_of (SendRequest i before b r) number = sent Fpwr (station i) b.receive_start (filled b.receive_size (request_bytes before r)) number
 datagram_of (AwaitReply i b r) number = sent Fprd (station i) b.send_start (zeros b.send_size) number
 -- ---- of a table with `hardware`
+datagram_of (AwaitFreeReply i b r) number = sent Fprd (station i) b.send_start (zeros b.send_size) number
 datagram_of AwaitInitState number = sent Brd 0 al_status (zeros 2) number
 -- as many FMMUs and sync managers as a controller can have: 16
 datagram_of ClearAllFmmus number = sent Bwr 0 fmmus (zeros 256) number

@@ -2,7 +2,7 @@
 use Rattle.std.specs.Prelude.{◌<◌, ◌≤◌, Bool, true, false}
 use Rattle.ec_device.specs.Types.{IsMailbox}
 use Rattle.ec_start.specs.declared.action.Action.{Action}
-use Rattle.ec_start.specs.declared.action.Action.TheVariants.{CountSlaves, AskInit, AwaitInit, ClearFmmus, ClearManagers, ClearStations, NameSlave, AskWord, AwaitWord, SetManager, SetFmmu, AskState, AwaitState, SendRequest, AwaitReply, AwaitInitState, ClearAllFmmus, ClearAllManagers, AssignSii, ClearSiiError, AwaitCleanInit, FeedPart}
+use Rattle.ec_start.specs.declared.action.Action.TheVariants.{CountSlaves, AskInit, AwaitInit, ClearFmmus, ClearManagers, ClearStations, NameSlave, AskWord, AwaitWord, SetManager, SetFmmu, AskState, AwaitState, SendRequest, AwaitReply, AwaitFreeReply, AwaitInitState, ClearAllFmmus, ClearAllManagers, AssignSii, ClearSiiError, AwaitCleanInit, FeedPart}
 
 abbrev pub IsDoable : Action → Type 0
 IsDoable CountSlaves = Unit {0}
@@ -20,6 +20,7 @@ IsDoable (AskState i state) = i < 64
 IsDoable (AwaitState i state) = i < 64
 IsDoable (SendRequest i before b r) = (i < 64) × IsMailbox b
 IsDoable (AwaitReply i b r) = (i < 64) × IsMailbox b
+IsDoable (AwaitFreeReply i b r) = (i < 64) × IsMailbox b
 IsDoable AwaitInitState = Unit {0}
 IsDoable ClearAllFmmus = Unit {0}
 IsDoable ClearAllManagers = Unit {0}

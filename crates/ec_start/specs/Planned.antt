@@ -3,7 +3,8 @@ use Rattle.std.specs.Prelude.{ℕ, ◌+◌, ◌*◌, ◌^◌, ◌<◌, ◌≤◌
 use Rattle.ec_regs.specs.declared.manager.SyncManagerSettings.{SyncManagerSettings}
 use Rattle.ec_regs.specs.declared.fmmu.FmmuSettings.{FmmuSettings}
 use Rattle.ec_device.specs.declared.slave_type.Mailbox.{Mailbox}
-use Rattle.ec_device.specs.Hardware.{AreNumbered, fmmu_count}
+use Rattle.ec_device.specs.Hardware.{AreNumbered, fmmu_count, is_assignable}
+use Rattle.ec_device.specs.Parameters.{AreParameters}
 use Rattle.ec_regs.specs.Managers.{no_settings, is_set, is_mailbox, is_master_written, is_master_read}
 use Rattle.ec_regs.specs.Fmmus.{no_fmmu}
 use Rattle.ec_coe.specs.Messages.{size_number}
@@ -78,8 +79,10 @@ pub record IsStartable (p : SlavePlan) : Type 0 where
   -- with `hardware` it isn't full
   pub faceless : is_some p.kind.hardware ≡ true → p.kind.face ≡ None
   pub requests : AreRequests (requests p)
-  -- a slave without a mailbox has all its PDOs assigned, and none if its type has none
-  pub all_assigned : p.kind.mailbox ≡ None → (p.outputs ≡ indices p.kind.outputs) × (p.inputs ≡ indices p.kind.inputs)
+  -- its parameters are few, and go through its mailbox
+  pub parameters : AreParameters p.kind.mailbox p.kind.init
+  -- a slave whose assignment can't be written has all its PDOs assigned, and none if its type has none
+  pub all_assigned : is_assignable p.kind.mailbox p.kind.hardware ≡ false → (p.outputs ≡ indices p.kind.outputs) × (p.inputs ≡ indices p.kind.inputs)
   pub no_outs : has_some p.kind.outputs ≡ false → p.outputs ≡ []
   pub no_ins : has_some p.kind.inputs ≡ false → p.inputs ≡ []
 

@@ -16,8 +16,9 @@ use Rattle.ec_start.specs.declared.action.Action.TheVariants.{CountSlaves, Await
 use Rattle.ec_start.specs.declared.action.Feed.{Feed}
 use Rattle.ec_start.specs.declared.error.StartError.{StartError}
 use Rattle.ec_start.specs.declared.error.StartError.TheVariants.{TooSlow, Lost, NumbersSpent}
+use Rattle.ec_start.specs.declared.aside.Heard.{Heard}
 use Rattle.ec_start.specs.declared.verdict.Verdict.{Verdict}
-use Rattle.ec_start.specs.declared.verdict.Verdict.TheVariants.{Next, Word, Fed, Again, Fails}
+use Rattle.ec_start.specs.declared.verdict.Verdict.TheVariants.{Next, Word, Fed, Again, Aside, Fails}
 use Rattle.ec_start.specs.declared.verdict.WantedDevice.{WantedDevice}
 use Rattle.ec_start.specs.declared.phase.Phase.{Phase}
 use Rattle.ec_start.specs.declared.phase.Phase.TheVariants.{Idle, Sent, Ready, Failed}
@@ -44,11 +45,13 @@ pub record StartState : Type 0 where
   pub polls : ℕ
   -- what was read of the identity so far
   pub seen : Device
+  -- the message that was set aside last, in this start-up
+  pub heard : Option Heard
   pub phase : Phase
 
 -- as it begins: no frame was sent
 unfoldable pub begun : List SlavePlan → List Feed → ℕ → StartState
-begun plan feeds number = record { plan = plan; feeds = feeds; next = number; place = 0; fed = 0; polls = 0; seen = nothing_read; phase = Idle }
+begun plan feeds number = record { plan = plan; feeds = feeds; next = number; place = 0; fed = 0; polls = 0; seen = nothing_read; heard = None; phase = Idle }
 
 -- the action of the step that it is at
 abbrev pub step_of : StartState → Action
@@ -136,11 +139,16 @@ with_identity s _ value = s.seen
 abbrev pub max_polls : ℕ
 max_polls = 1000
 
+-- a wait goes on with one more poll, or ends behind the last
+abbrev pub polled : StartState → StartState
+polled s = if s.polls + 1 == max_polls then record s { phase = Failed (TooSlow s.place) } else record s { fed = 0; polls = s.polls + 1; phase = Idle }
+
 abbrev pub judged : StartState → Verdict → StartState
 judged s Next = advanced s s.seen
 judged s (Word value) = advanced s (with_identity s (action_of s) value)
 judged s Fed = record s { fed = s.fed + 1; phase = Idle }
-judged s Again = if s.polls + 1 == max_polls then record s { phase = Failed (TooSlow s.place) } else record s { fed = 0; polls = s.polls + 1; phase = Idle }
+judged s Again = polled s
+judged s (Aside heard) = polled (record s { heard = Some heard })
 judged s (Fails error) = record s { phase = Failed error }
 
 -- the returned datagram of the outstanding frame is taken

@@ -9,7 +9,7 @@
 -- | 5 | vendor, product and revision are read from its SII; with `hardware` the SII is given back, by all | identified, closed |
 -- | 6 | its mailboxes are set | mailbox_set |
 -- | 7 | it is led to PREOP | raised PreOp |
--- | 8 | mappings are read back, then assignments are written | talked |
+-- | 8 | parameters are written, mappings are read back, then assignments are written, or read back where they are fixed | talked |
 -- | 9 | its process data managers and its FMMUs are set | mapped |
 -- | 10 | it is led to SAFEOP | raised SafeOp |
 -- | 11 | it is led to OP | raised Op |
@@ -19,7 +19,8 @@ use Rattle.ec_device.specs.declared.slave_type.Entry.{Entry}
 use Rattle.ec_device.specs.declared.slave_type.Pdo.{Pdo}
 use Rattle.ec_device.specs.declared.slave_type.Mailbox.{Mailbox}
 use Rattle.ec_device.specs.declared.hardware.Hardware.{Hardware}
-use Rattle.ec_device.specs.Hardware.{manager_number, other_name}
+use Rattle.ec_device.specs.declared.parameter.Parameter.{Parameter}
+use Rattle.ec_device.specs.Hardware.{manager_number, other_name, is_fixed}
 use Rattle.ec_device.specs.Types.{SlaveKind}
 use Rattle.ec_regs.specs.declared.manager.SyncManagerSettings.{SyncManagerSettings}
 use Rattle.ec_al.specs.declared.state.State.{State}
@@ -27,13 +28,14 @@ use Rattle.ec_al.specs.declared.state.State.TheVariants.{PreOp, SafeOp, Op}
 use Rattle.ec_device.specs.Objects.{pdo_at}
 use Rattle.ec_coe.specs.declared.value.SdoValue.{SdoValue}
 use Rattle.ec_coe.specs.Objects.{byte_value, word_value, long_value, entry_number, output_assignment, input_assignment, has_some}
+use Rattle.ec_coe.specs.SwitchedOn.{value_size}
 use Rattle.ec_start.specs.Plans.{settings_at, fmmu_at}
 use Rattle.ec_link.specs.declared.settings.SlavePlan.{SlavePlan}
 use Rattle.ec_start.specs.declared.action.Transfer.TheVariants.{Download, Upload}
 use Rattle.ec_start.specs.declared.action.SdoRequest.{SdoRequest}
 use Rattle.ec_start.specs.declared.action.ManagerRegister.{ManagerRegister}
 use Rattle.ec_start.specs.declared.action.Action.{Action}
-use Rattle.ec_start.specs.declared.action.Action.TheVariants.{CountSlaves, AskInit, AwaitInit, ClearFmmus, ClearManagers, ClearStations, NameSlave, AskWord, AwaitWord, SetManager, SetFmmu, AskState, AwaitState, SendRequest, AwaitReply, AwaitInitState, ClearAllFmmus, ClearAllManagers, AssignSii, ClearSiiError, AwaitCleanInit}
+use Rattle.ec_start.specs.declared.action.Action.TheVariants.{CountSlaves, AskInit, AwaitInit, ClearFmmus, ClearManagers, ClearStations, NameSlave, AskWord, AwaitWord, SetManager, SetFmmu, AskState, AwaitState, SendRequest, AwaitReply, AwaitFreeReply, AwaitInitState, ClearAllFmmus, ClearAllManagers, AssignSii, ClearSiiError, AwaitCleanInit}
 use Rattle.ec_start.specs.declared.action.SiiAccess.TheVariants.{Master, Device, Forced}
 
 -- whether the plan is one of a table with `hardware`: then each of its types says what its devices are like, and else none does
@@ -41,13 +43,23 @@ abbrev pub is_hardware : List SlavePlan → Bool
 is_hardware [] = false
 is_hardware (p ∷ ps) = is_some p.kind.hardware
 
--- ---- the requests to one slave: uploads of each PDO that the plan assigns, then the downloads of both assignments
+-- ---- the requests to one slave: downloads of its parameters, uploads of each PDO that the plan assigns, then both assignments: downloads,
+-- or uploads where the device has them fixed
 
 abbrev pub downloads : (index subindex : ℕ) → SdoValue → SdoRequest
 downloads index subindex value = record { index = index; subindex = subindex; transfer = Download value }
 
 abbrev pub uploads : (index subindex : ℕ) → SdoValue → SdoRequest
 uploads index subindex value = record { index = index; subindex = subindex; transfer = Upload value }
+
+-- a parameter has 1, 2 or 4 bytes (ETG.1000.6, "SDO download expedited")
+abbrev pub parameter_value : Parameter → SdoValue
+parameter_value q = record { size = value_size q.size; number = q.value }
+
+-- the parameters of a slave, in order: those of its type, then its own
+abbrev pub parameters_written : List Parameter → List SdoRequest
+parameters_written [] = []
+parameters_written (q ∷ qs) = downloads q.index q.subindex (parameter_value q) ∷ parameters_written qs
 
 -- the entries of a PDO, the first with subindex k
 abbrev pub entries_read : ℕ → ℕ → List Entry → List SdoRequest
@@ -73,12 +85,30 @@ abbrev pub assignment_written : ℕ → List ℕ → Bool → List SdoRequest
 assignment_written object indices false = []
 assignment_written object indices true = downloads object 0 (byte_value 0) ∷ count_written object indices
 
-abbrev pub requests : SlavePlan → List SdoRequest
-requests p =
+abbrev pub slots_read : ℕ → ℕ → List ℕ → List SdoRequest
+slots_read object k [] = []
+slots_read object k (p ∷ ps) = uploads object k (word_value p) ∷ slots_read object (k + 1) ps
+
+-- the count, then each index; nothing if the type has no PDO of the direction
+abbrev pub assignment_read : ℕ → List ℕ → Bool → List SdoRequest
+assignment_read object indices false = []
+assignment_read object indices true = uploads object 0 (byte_value (length indices)) ∷ slots_read object 1 indices
+
+-- an assignment that the device has fixed is read back and compared, any other is written
+abbrev pub assignment_of : (fixed : Bool) → ℕ → List ℕ → Bool → List SdoRequest
+assignment_of false = assignment_written
+assignment_of true = assignment_read
+
+-- the requests about its PDOs
+abbrev pub pdo_requests : SlavePlan → List SdoRequest
+pdo_requests p =
     flat_map (λ index. pdo_read (pdo_at p.kind.outputs index)) p.outputs
     ++ (flat_map (λ index. pdo_read (pdo_at p.kind.inputs index)) p.inputs
-    ++ (assignment_written output_assignment p.outputs (has_some p.kind.outputs)
-    ++ assignment_written input_assignment p.inputs (has_some p.kind.inputs)))
+    ++ (assignment_of (is_fixed p.kind.hardware) output_assignment p.outputs (has_some p.kind.outputs)
+    ++ assignment_of (is_fixed p.kind.hardware) input_assignment p.inputs (has_some p.kind.inputs)))
+
+abbrev pub requests : SlavePlan → List SdoRequest
+requests p = parameters_written p.kind.init ++ pdo_requests p
 
 -- ---- the actions of one slave, phase by phase
 
@@ -113,13 +143,18 @@ mailbox_set i p (Some b) = set_manager i p 0 ∷ set_manager i p 1 ∷ []
 abbrev pub raised : State → ℕ → SlavePlan → List Action
 raised state i p = AskState i state ∷ AwaitState i state ∷ []
 
-abbrev pub exchanged : ℕ → Mailbox → ℕ → List SdoRequest → List Action
-exchanged i b before [] = []
-exchanged i b before (r ∷ rs) = SendRequest i before b r ∷ AwaitReply i b r ∷ exchanged i b (before + 1) rs
+-- real devices also send other messages, and uploads of any size
+abbrev pub reply_awaited : (hardware : Bool) → ℕ → Mailbox → SdoRequest → Action
+reply_awaited false i b r = AwaitReply i b r
+reply_awaited true i b r = AwaitFreeReply i b r
+
+abbrev pub exchanged : (hardware : Bool) → ℕ → Mailbox → ℕ → List SdoRequest → List Action
+exchanged hardware i b before [] = []
+exchanged hardware i b before (r ∷ rs) = SendRequest i before b r ∷ reply_awaited hardware i b r ∷ exchanged hardware i b (before + 1) rs
 
 abbrev pub talked : ℕ → SlavePlan → Option Mailbox → List Action
 talked i p None = []
-talked i p (Some b) = exchanged i b 0 (requests p)
+talked i p (Some b) = exchanged (is_some p.kind.hardware) i b 0 (requests p)
 
 abbrev pub manager_set : ℕ → SlavePlan → ℕ → List Action
 manager_set i p n = if (settings_at p.managers n).activate == 0 then [] else set_manager i p n ∷ []

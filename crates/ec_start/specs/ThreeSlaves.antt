@@ -18,6 +18,7 @@ kind_of product mailbox out_start in_start outputs inputs = record {
   lrw = true;
   face = None;
   hardware = None;
+  init = [];
 }
 
 -- a PDO with one entry

@@ -1,25 +1,30 @@
 -- What the returned datagram of an action says: the action is done, it is tried again, or the start-up has failed and why.
-use Rattle.std.specs.Prelude.{ℕ, ◌+◌, ◌*◌, ◌%◌, ◌==◌, ◌&&◌, ◌||◌, not, List, Bool, if◌then◌else◌, slice_index, Option}
+use Rattle.std.specs.Prelude.{ℕ, ◌+◌, ◌*◌, ◌%◌, ◌==◌, ◌&&◌, ◌||◌, not, List, length, Bool, if◌then◌else◌, nat_le, slice_index, Option, Some, None}
 use Rattle.ec_device.specs.declared.slave_type.Device.{Device}
 use Rattle.ec_regs.specs.Words.{al_flag, sii_error, sii_busy}
 use Rattle.ec_frame.specs.Datagram.{Datagram}
 use Rattle.ec_al.specs.declared.state.State.{State}
 use Rattle.ec_al.specs.States.{state_number}
+use Rattle.ec_coe.specs.declared.value.ValueSize.{ValueSize}
 use Rattle.ec_coe.specs.declared.value.SdoValue.{SdoValue}
 use Rattle.ec_coe.specs.declared.message.Message.{Message}
 use Rattle.ec_coe.specs.declared.reply.Reply.{Reply}
 use Rattle.ec_coe.specs.declared.reply.Reply.TheVariants.{Downloaded, Uploaded, Aborted, Unexpected}
-use Rattle.ec_coe.specs.Messages.{size_number, message_read}
-use Rattle.ec_coe.specs.Replies.{reply_of}
+use Rattle.ec_coe.specs.Messages.{size_number, message_length, message_read}
+use Rattle.ec_coe.specs.Refusals.{type_in, service_in, coe_type}
+use Rattle.ec_coe.specs.Emergency.{emergency_service}
+use Rattle.ec_coe.specs.Replies.{reply_of, is_aside, free_reply_of}
 use Rattle.ec_start.specs.declared.action.Transfer.{Transfer}
 use Rattle.ec_start.specs.declared.action.Transfer.TheVariants.{Download, Upload}
 use Rattle.ec_start.specs.declared.action.SdoRequest.{SdoRequest}
 use Rattle.ec_start.specs.declared.action.Action.{Action}
-use Rattle.ec_start.specs.declared.action.Action.TheVariants.{CountSlaves, AskInit, AwaitInit, ClearFmmus, ClearManagers, ClearStations, NameSlave, AskWord, AwaitWord, SetManager, SetFmmu, AskState, AwaitState, SendRequest, AwaitReply, AwaitInitState, ClearAllFmmus, ClearAllManagers, AssignSii, ClearSiiError, AwaitCleanInit, FeedPart}
+use Rattle.ec_start.specs.declared.action.Action.TheVariants.{CountSlaves, AskInit, AwaitInit, ClearFmmus, ClearManagers, ClearStations, NameSlave, AskWord, AwaitWord, SetManager, SetFmmu, AskState, AwaitState, SendRequest, AwaitReply, AwaitFreeReply, AwaitInitState, ClearAllFmmus, ClearAllManagers, AssignSii, ClearSiiError, AwaitCleanInit, FeedPart}
 use Rattle.ec_start.specs.declared.error.StartError.TheVariants.{BadMailbox, Count, Identity, Counter, AlError, Abort, Mapping}
+use Rattle.ec_start.specs.declared.aside.Emergency.{Emergency}
+use Rattle.ec_start.specs.declared.aside.Heard.{Heard}
 use Rattle.ec_start.specs.declared.verdict.WantedDevice.{WantedDevice}
 use Rattle.ec_start.specs.declared.verdict.Verdict.{Verdict}
-use Rattle.ec_start.specs.declared.verdict.Verdict.TheVariants.{Next, Word, Fed, Again, Fails}
+use Rattle.ec_start.specs.declared.verdict.Verdict.TheVariants.{Next, Word, Fed, Again, Aside, Fails}
 
 -- ---- numbers in the data, little-endian
 
@@ -80,11 +85,13 @@ clean_init_verdict bytes = if slice_index bytes 0 % 32 == 1 then Next else Again
 
 -- ---- replies
 
--- a value of the size that was asked for, and the one that the type has
+-- the value that the type has
+abbrev pub value_verdict : ℕ → SdoRequest → SdoValue → SdoValue → Verdict
+value_verdict i r expected seen = if seen.number == expected.number then Next else Fails (Mapping i r.index r.subindex seen.number)
+
+-- of the size that was asked for
 abbrev pub upload_verdict : ℕ → SdoRequest → SdoValue → SdoValue → Verdict
-upload_verdict i r expected seen =
-    if not (size_number seen.size == size_number expected.size) then Fails (BadMailbox i)
-    else (if seen.number == expected.number then Next else Fails (Mapping i r.index r.subindex seen.number))
+upload_verdict i r expected seen = if not (size_number seen.size == size_number expected.size) then Fails (BadMailbox i) else value_verdict i r expected seen
 
 abbrev pub reply_verdict : ℕ → SdoRequest → Transfer → Reply → Verdict
 reply_verdict i r (Download value) Downloaded = Next
@@ -99,6 +106,36 @@ reply_verdict i r (Upload value) Unexpected = Fails (BadMailbox i)
 -- the verdict on a mailbox's message as the reply to a request
 abbrev pub message_verdict : ℕ → SdoRequest → Option Message → Verdict
 message_verdict i r m = reply_verdict i r r.transfer (reply_of r.index r.subindex m)
+
+-- ---- replies of real devices
+
+-- An emergency has a CoE service of its own; behind the CoE header stand its error code and the error register (ETG.1000.4, "Mailbox
+-- structure"; ETG.1000.6, "CoE header", "Emergency").
+abbrev pub is_emergency : List ℕ → Bool
+is_emergency bytes = nat_le message_length (length bytes) && ((type_in bytes == coe_type) && (service_in bytes == emergency_service))
+
+abbrev pub emergency_in : List ℕ → Option Emergency
+emergency_in bytes = if is_emergency bytes then Some (record { code = word_at bytes 8; register = slice_index bytes 10 }) else None
+
+-- what a slave says by a message that is set aside
+abbrev pub heard_in : ℕ → List ℕ → Heard
+heard_in i bytes = record { slave = i; emergency = emergency_in bytes }
+
+-- a value of any size; one without a size has as many bytes as was asked for
+abbrev pub free_reply_verdict : ℕ → SdoRequest → Transfer → Reply → Verdict
+free_reply_verdict i r (Upload value) (Uploaded seen) = value_verdict i r value seen
+free_reply_verdict i r transfer reply = reply_verdict i r transfer reply
+
+abbrev pub size_asked : Transfer → ValueSize
+size_asked (Download value) = value.size
+size_asked (Upload value) = value.size
+
+abbrev pub free_message_verdict : ℕ → SdoRequest → Option Message → Verdict
+free_message_verdict i r m = free_reply_verdict i r r.transfer (free_reply_of r.index r.subindex (size_asked r.transfer) m)
+
+-- a message that is no SDO is set aside: the wait goes on
+abbrev pub free_verdict : ℕ → SdoRequest → List ℕ → Verdict
+free_verdict i r bytes = if is_aside bytes then Aside (heard_in i bytes) else free_message_verdict i r (message_read bytes)
 
 -- ---- all actions
 
@@ -124,6 +161,7 @@ verdict n step s types (AwaitState i state) d = counted d.counter 1 step (state_
 verdict n step s types (SendRequest i before b r) d = counted d.counter 1 step Next
 verdict n step s types (AwaitReply i b r) d = if d.counter == 0 then Again else counted d.counter 1 step (message_verdict i r (message_read d.data_bytes))
 -- ---- of a table with `hardware`; which registers a device has is its own, so not every clear is counted
+verdict n step s types (AwaitFreeReply i b r) d = if d.counter == 0 then Again else counted d.counter 1 step (free_verdict i r d.data_bytes)
 verdict n step s types AwaitInitState d = counted d.counter n step (init_state_verdict d.data_bytes)
 verdict n step s types ClearAllFmmus d = Next
 verdict n step s types ClearAllManagers d = Next

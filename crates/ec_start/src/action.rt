@@ -3,12 +3,12 @@
 ghost use Rattle.std.specs.Prelude.{◌≡◌, ◌<◌, ◌≤◌, ◌-◌, ◌%◌, ◌/◌, false, length};
 ghost use Rattle.ec_bits.specs.Bits.{zeros};
 ghost use Rattle.ec_start.specs.Actions.{access_number, station, slave_of_action, word_address_of, request_message, datagram_of};
-ghost use Rattle.ec_start.specs.Scripts.{downloads, uploads};
+ghost use Rattle.ec_start.specs.Scripts.{parameter_value, downloads, uploads};
 ghost use Rattle.ec_start.specs.Doable.{IsDoable, is_feed};
 
 use ec_al::State;
-use ec_coe::{Message, SdoCommand, SdoValue, Service, write_message};
-use ec_device::Mailbox;
+use ec_coe::{Message, SdoCommand, SdoValue, Service, ValueSize, write_message};
+use ec_device::{Mailbox, Parameter};
 use ec_frame::{Command, address_of};
 use ec_regs::registers::{
     AL_CONTROL, AL_STATUS, AL_STATUS_CODE, FMMU_SIZE, FMMUS, FMMUS_END, MANAGER_SIZE, SII_ADDRESS,
@@ -161,6 +161,12 @@ pub enum Action {
         mailbox: Mailbox,
         request: SdoRequest,
     },
+    /// With `hardware`: waits for the reply. Emergencies and messages of other protocols are set aside.
+    AwaitFreeReply {
+        slave: usize,
+        mailbox: Mailbox,
+        request: SdoRequest,
+    },
     /// With `hardware`: waits until all are in INIT, with an error or without. A device without firmware copies the
     /// acknowledgement into its AL status, where it looks like an error.
     AwaitInitState,
@@ -203,6 +209,17 @@ impl SdoRequest {
             subindex,
             transfer: Transfer::Download(value),
         }
+    }
+
+    /// The download of a parameter.
+    pub(crate) fn of_parameter(parameter: &Parameter) -> Self
+        ensures { result ≡ downloads parameter.now.index parameter.now.subindex (parameter_value parameter.now) }
+    {
+        let value = SdoValue {
+            size: ValueSize::of(parameter.size),
+            number: parameter.value,
+        };
+        SdoRequest::download(parameter.index, parameter.subindex, value)
     }
 
     /// An upload that must bring a value back.
@@ -250,6 +267,7 @@ impl Action {
             | Action::AwaitState { slave, .. }
             | Action::SendRequest { slave, .. }
             | Action::AwaitReply { slave, .. }
+            | Action::AwaitFreeReply { slave, .. }
             | Action::AwaitCleanInit { slave } => Some(slave),
             _ => None,
         }
@@ -273,6 +291,7 @@ impl Action {
             Action::AwaitWord { .. }
             | Action::AwaitState { .. }
             | Action::AwaitReply { .. }
+            | Action::AwaitFreeReply { .. }
             | Action::AwaitCleanInit { .. } => Command::Fprd,
             Action::AskWord { .. }
             | Action::SetManager { .. }
@@ -323,7 +342,9 @@ impl Action {
             Action::SetManager { .. } => MANAGER_SIZE,
             Action::SetFmmu { .. } => FMMU_SIZE,
             Action::SendRequest { mailbox, .. } => mailbox.receive_size as usize,
-            Action::AwaitReply { mailbox, .. } => mailbox.send_size as usize,
+            Action::AwaitReply { mailbox, .. } | Action::AwaitFreeReply { mailbox, .. } => {
+                mailbox.send_size as usize
+            }
         }
     }
 
@@ -401,7 +422,9 @@ impl Action {
             Action::SetManager { register, .. } => manager_address(register.number) as u16,
             Action::SetFmmu { number, .. } => fmmu_address(number) as u16,
             Action::SendRequest { mailbox, .. } => mailbox.receive_start,
-            Action::AwaitReply { mailbox, .. } => mailbox.send_start,
+            Action::AwaitReply { mailbox, .. } | Action::AwaitFreeReply { mailbox, .. } => {
+                mailbox.send_start
+            }
         }
     }
 
@@ -420,6 +443,7 @@ impl Action {
             | Action::AwaitState { slave, .. }
             | Action::SendRequest { slave, .. }
             | Action::AwaitReply { slave, .. }
+            | Action::AwaitFreeReply { slave, .. }
             | Action::AwaitCleanInit { slave } => station(slave),
             _ => 0,
         }

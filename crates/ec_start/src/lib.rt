@@ -4,6 +4,7 @@
 
 mod action;
 mod answer;
+mod aside;
 mod error;
 mod feeding;
 mod held;
@@ -17,6 +18,7 @@ mod verdict;
 
 pub use crate::action::{Action, Feed, ManagerRegister, SdoRequest, SiiAccess, Transfer};
 pub use crate::answer::answer_in;
+pub use crate::aside::{Emergency, Heard};
 pub use crate::error::StartError;
 pub use crate::held::HeldPlan;
 pub use crate::phase::{NextFrame, Phase, Taken};

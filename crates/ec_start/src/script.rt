@@ -1,16 +1,17 @@
 //! The place of a start-up in its script. No step of the script is stored.
 
-ghost use Rattle.std.specs.Prelude.{◌≡◌, ◌≤◌, ◌<◌, true, false, length, All, Option, Some, None, IfSome, get_or, slice_get};
+ghost use Rattle.std.specs.Prelude.{◌≡◌, ◌≤◌, ◌<◌, true, false, length, All, Option, Some, None, is_some, IfSome, get_or, slice_get};
+ghost use Rattle.ec_device.specs.Types.{IsMailbox};
 ghost use Rattle.ec_start.specs.Planned.{HasFewAssigned};
-ghost use Rattle.ec_start.specs.Scripts.{identified, is_hardware, mailbox_set, mapped, named, opened, raised, register_of, set_manager, settled, talked};
+ghost use Rattle.ec_start.specs.Scripts.{identified, is_hardware, mailbox_set, mapped, named, opened, raised, register_of, reply_awaited, set_manager, settled, talked};
 ghost use Rattle.ec_start.specs.Doable.{IsDoable};
 ghost use Rattle.ec_start.specs.Held.{first_step};
 ghost use Rattle.ec_start.specs.Ahead.{share, opening, share_at, for_all, is_for_all, following, behind, manager_chosen, fmmu_chosen, choices, Settles};
 
-use crate::action::{Action, ManagerRegister, SiiAccess};
+use crate::action::{Action, ManagerRegister, SdoRequest, SiiAccess};
 use crate::requests::request_at;
 use ec_al::State;
-use ec_device::SlaveType;
+use ec_device::{Mailbox, SlaveType};
 use ec_link::SlavePlan;
 use ec_regs::SyncManagerSettings;
 
@@ -32,7 +33,7 @@ pub enum Stretch {
     Mailboxes,
     /// Each slave is brought to PREOP.
     ToPreOp,
-    /// Mappings are read back, and assignments written.
+    /// Parameters are written, mappings read back, and assignments written or read back.
     Talking,
     /// Process data managers and FMMUs are set.
     Mapping,
@@ -280,12 +281,29 @@ fn talking(slave: usize, settings: &SlavePlan, place: usize) -> Option<Action>
             request,
         }
     } else {
-        Action::AwaitReply {
+        reply_awaited(&settings.kind, slave, mailbox, request)
+    })
+}
+
+/// The wait for the reply to a request. Real devices also send other messages, and uploads of any size.
+fn reply_awaited(kind: &SlaveType, slave: usize, mailbox: Mailbox, request: SdoRequest) -> Action
+    requires low { slave < 64 }
+    requires limits { IsMailbox mailbox }
+    ensures value { result ≡ reply_awaited (is_some kind.now.hardware) slave mailbox request }
+    ensures doable { IsDoable result }
+{
+    match kind.hardware() {
+        None => Action::AwaitReply {
             slave,
             mailbox,
             request,
-        }
-    })
+        },
+        Some(_) => Action::AwaitFreeReply {
+            slave,
+            mailbox,
+            request,
+        },
+    }
 }
 
 fn setting_mailboxes(slave: usize, settings: &SlavePlan, place: usize) -> Option<Action>

@@ -15,6 +15,7 @@ ghost use Rattle.ec_start.specs.Running.{begun, action_of, has_failed, is_ended,
 
 use crate::action::{Action, MAX_DATA};
 use crate::answer::answer_in;
+use crate::aside::Heard;
 use crate::error::StartError;
 use crate::feeding::{feed_at, is_fed};
 use crate::held::HeldPlan;
@@ -46,6 +47,8 @@ pub struct Startup<'p> {
     fed: usize,
     polls: u16,
     seen: Device,
+    // the message that was set aside last
+    heard: Option<Heard>,
     phase: Phase,
     // the step of the script that it is at; the script itself is not stored
     step: Step,
@@ -67,6 +70,7 @@ impl<'p> Model for Startup<'p> {
       fed = s.fed;
       polls = s.polls;
       seen = s.seen;
+      heard = s.heard;
       phase = s.phase;
     } };
 
@@ -108,6 +112,7 @@ impl<'p> Startup<'p> {
             fed: 0,
             polls: 0,
             seen: nothing_read(),
+            heard: None,
             phase: Phase::Idle,
             step: first_step(),
         }
@@ -139,6 +144,20 @@ impl<'p> Startup<'p> {
             Phase::Ready => Some(Ok(())),
             Phase::Failed(error) => Some(Err(error)),
         }
+    }
+
+    /// The number of the step that it is at, counted from 0 in the order of the script. If it has failed, it failed there.
+    pub fn place(&self) -> usize
+        ensures { result ≡ self.now.place }
+    {
+        self.place
+    }
+
+    /// The message that was set aside last in this start-up; none if none was. Only slaves of a table with `hardware` may send one.
+    pub fn heard(&self) -> Option<Heard>
+        ensures { result ≡ self.now.heard }
+    {
+        self.heard
     }
 
     /// The number of the next frame: one more than the last that was sent.
@@ -224,6 +243,7 @@ impl<'p> Startup<'p> {
         self.fed = 0;
         self.polls = 0;
         self.seen = nothing_read();
+        self.heard = None;
         self.phase = Phase::Idle;
         self.step = first_step();
     }
@@ -254,6 +274,10 @@ impl<'p> Startup<'p> {
             Verdict::Word(value) => self.advance(self.with_identity(value)),
             Verdict::Fed => self.feed_next(),
             Verdict::Again => self.poll(),
+            Verdict::Aside(heard) => {
+                self.heard = Some(heard);
+                self.poll();
+            }
             Verdict::Fails(error) => self.phase = Phase::Failed(error),
         }
     }

@@ -5,13 +5,14 @@ ghost use Rattle.ec_device.specs.declared.slave_type.Device.{Device};
 ghost use Rattle.ec_start.specs.Actions.{datagram_of};
 ghost use Rattle.ec_start.specs.Running.{type_of, wanted_of};
 ghost use Rattle.ec_start.specs.Answered.{answered, init_verdict};
-ghost use Rattle.ec_start.specs.Verdicts.{nothing_read, with_word, read_before, is_device, differs, word_verdict, state_verdict, init_state_verdict, clean_init_verdict, upload_verdict, reply_verdict, counted, verdict};
+ghost use Rattle.ec_start.specs.Verdicts.{nothing_read, with_word, read_before, is_device, differs, word_verdict, state_verdict, init_state_verdict, clean_init_verdict, upload_verdict, value_verdict, reply_verdict, size_asked, free_reply_verdict, free_verdict, counted, verdict};
 
 use crate::action::{Action, SdoRequest, Transfer};
+use crate::aside::Heard;
 use crate::error::StartError;
 use byteorder::{ByteOrder, LittleEndian};
 use ec_al::State;
-use ec_coe::{Reply, SdoValue, read_reply};
+use ec_coe::{Reply, SdoValue, ValueSize, is_aside, read_free_reply, read_reply};
 use ec_device::{Device, SlaveType};
 use ec_link::SlavePlan;
 use ec_regs::registers::{AL_STATUS, AL_STATUS_CODE, SII_CONTROL, SII_DATA};
@@ -33,6 +34,8 @@ pub enum Verdict {
     Fed,
     /// The action must be tried again.
     Again,
+    /// The slave sent this in place of a reply; the action must be tried again.
+    Aside(Heard),
     /// The start-up fails.
     Fails(StartError),
 }
@@ -122,6 +125,10 @@ pub fn verdict_on(
             let reply = read_reply(bytes, request.index, request.subindex);
             counted(counter, 1, step, reply_verdict(slave, &request, reply))
         }
+        Action::AwaitFreeReply { .. } if counter == 0 => Verdict::Again,
+        Action::AwaitFreeReply { slave, request, .. } => {
+            counted(counter, 1, step, free_verdict(slave, &request, bytes))
+        }
         _ => counted(counter, 1, step, Verdict::Next),
     }
 }
@@ -156,6 +163,12 @@ fn upload_verdict(slave: usize, request: &SdoRequest, expected: SdoValue, seen: 
     if seen.size.number() != expected.size.number() {
         return Verdict::Fails(StartError::BadMailbox { slave });
     }
+    value_verdict(slave, request, expected, seen)
+}
+
+fn value_verdict(slave: usize, request: &SdoRequest, expected: SdoValue, seen: SdoValue) -> Verdict
+    ensures { result ≡ value_verdict slave request.now expected seen }
+{
     if seen.number == expected.number {
         return Verdict::Next;
     }
@@ -165,6 +178,39 @@ fn upload_verdict(slave: usize, request: &SdoRequest, expected: SdoValue, seen: 
         subindex: request.subindex,
         seen: seen.number,
     })
+}
+
+/// The verdict on the message in a mailbox of a real device: one that is no SDO is set aside.
+fn free_verdict(slave: usize, request: &SdoRequest, mailbox: &[u8]) -> Verdict
+    ensures { result ≡ free_verdict slave request.now mailbox.now }
+{
+    if is_aside(mailbox) {
+        return Verdict::Aside(Heard::read(slave, mailbox));
+    }
+    let size = size_asked(request.transfer);
+    let reply = read_free_reply(mailbox, request.index, request.subindex, size);
+    free_reply_verdict(slave, request, reply)
+}
+
+/// The verdict on the reply of a real device: an upload may have any size.
+fn free_reply_verdict(slave: usize, request: &SdoRequest, reply: Reply) -> Verdict
+    ensures { result ≡ free_reply_verdict slave request.now request.now.transfer reply }
+{
+    match (request.transfer, reply) {
+        (Transfer::Upload(expected), Reply::Uploaded(seen)) => {
+            value_verdict(slave, request, expected, seen)
+        }
+        _ => reply_verdict(slave, request, reply),
+    }
+}
+
+/// The size of the value that a request transfers.
+fn size_asked(transfer: Transfer) -> ValueSize
+    ensures { result ≡ size_asked transfer }
+{
+    match transfer {
+        Transfer::Download(value) | Transfer::Upload(value) => value.size,
+    }
 }
 
 fn state_verdict(slave: usize, state: State, bytes: &[u8]) -> Verdict

@@ -19,7 +19,7 @@ use Rattle.ec_table.specs.Pdos.{pdos_in, numbers_in, indices_of, has_twice}
 use Rattle.ec_table.specs.Reading.{device_in, process_in, process_twice, type_at, type_named, type_element, slave_at, slave_named, slave_of_type, slave_element, variable_at, variable_element, is_possible, all_bits, link_at, link_element, top, table_of_document, table_of_sections}
 use Rattle.ec_table.specs.Laws.{TypeDefaults, SlaveDefaults, VariableDefaults, LinkDefaults, DocumentDefaults, LeftOutIsDefault}
 use Rattle.ec_table.proofs.ValueTests.{Meets, meets_ok, meets_then, any_met, ok_or_met}
-use Rattle.ec_table.proofs.SoundReads.{number_or_0_met, truth_met, described_met, described_if_met}
+use Rattle.ec_table.proofs.SoundReads.{number_or_0_met, parameters_met, truth_met, described_met, described_if_met}
 use Rattle.ec_table.proofs.SoundRows.{Fits, assigned_met}
 
 -- ---- values
@@ -94,10 +94,11 @@ type_defaults v p ms found =
     meets_then _ (TypeDefaults ms) _ _ (no_mailbox p (get_member (codes "mailbox") ms)) (λ mailbox hmailbox.
     meets_then _ (TypeDefaults ms) _ _ (no_process p _ _ _ _) (λ process hprocess.
     meets_then _ (TypeDefaults ms) _ _ (truth p true (get_member (codes "lrw") ms)) (λ lrw hlrw.
-    meets_then _ (TypeDefaults ms) _ _ (described_if_met v.hardware _ _ (described_met p process (get_member (codes "out_manager") ms) (get_member (codes "in_manager") ms) (get_member (codes "firmware") ms) (get_member (codes "fmmus") ms) (get_member (codes "revision") ms))) (λ hardware hhardware.
+    meets_then _ (TypeDefaults ms) _ _ (described_if_met v.hardware _ _ (described_met p process (get_member (codes "out_manager") ms) (get_member (codes "in_manager") ms) (get_member (codes "firmware") ms) (get_member (codes "fixed") ms) (get_member (codes "slow") ms) (get_member (codes "emergency") ms) (get_member (codes "fmmus") ms) (get_member (codes "revision") ms))) (λ hardware hhardware.
+    meets_then _ (TypeDefaults ms) _ _ (parameters_met p (get_member (codes "init") ms)) (λ init hinit.
     meets_then _ (TypeDefaults ms) _ _ (any_met (must (not (is_named (λ (t : TypeRow). t.name) name found || process_twice process)) (TwiceNamed p))) (λ w _.
-    meets_then _ (TypeDefaults ms) _ _ (any_met (must (is_possible mailbox hardware) (BadValue p))) (λ x _.
-    meets_ok (TypeDefaults ms) (record { name = name; device = device; mailbox = mailbox; process = process; lrw = lrw; hardware = hardware })
+    meets_then _ (TypeDefaults ms) _ _ (any_met (must (is_possible mailbox hardware init) (BadValue p))) (λ x _.
+    meets_ok (TypeDefaults ms) (record { name = name; device = device; mailbox = mailbox; process = process; lrw = lrw; hardware = hardware; init = init })
     (record {
       mailbox = hmailbox;
       outputs = hprocess.no_outputs;
@@ -107,12 +108,16 @@ type_defaults v p ms found =
         out_manager = read.out_usual;
         in_manager = read.in_usual;
         firmware = read.firmware_usual;
+        fixed = read.fixed_usual;
+        slow = read.slow_usual;
+        emergency = read.emergency_usual;
         fmmus = read.fmmus_usual;
         revision = λ none. read.any ∙ ap is_none none;
         out_start = hprocess.outputs_at;
         in_start = hprocess.inputs_at;
       };
-    }))))))))))
+      init = hinit.1;
+    })))))))))))
 
 slave_defaults : (v : Format) (ts : List TypeRow) (p : Position) (ms : Members) (found : List SlaveRow) → Meets (slave_at v ts p ms found) (SlaveDefaults ts ms)
 unfolding slave_at slave_named slave_of_type
@@ -124,10 +129,11 @@ slave_defaults v ts p ms found =
     meets_then _ (SlaveDefaults ts ms) _ _ (no_numbers p 0x1A00 0x1BFF (get_member (codes "in") ms)) (λ inputs hinputs.
     meets_then _ (SlaveDefaults ts ms) _ _ (number_or_0_met p 4294967295 (get_member (codes "serial") ms)) (λ serial hserial.
     meets_then _ (SlaveDefaults ts ms) _ _ (number_or_0_met p 63 (get_member (codes "unit") ms)) (λ unit hunit.
+    meets_then _ (SlaveDefaults ts ms) _ _ (parameters_met p (get_member (codes "init") ms)) (λ init hinit.
     meets_then _ (SlaveDefaults ts ms) _ _ (any_met (must (not (is_named (λ (s : SlaveRow). s.name) name found || (has_twice (unwrap_or outputs []) || has_twice (unwrap_or inputs [])))) (TwiceNamed p))) (λ w _.
     meets_then _ (SlaveDefaults ts ms) _ _ (any_met (ok_or (index_named (λ (t : TypeRow). t.name) type_name ts) (UnknownName p))) (λ place _.
     meets_then _ (SlaveDefaults ts ms) _ _ (ok_or_met (slice_get ts place) (UnknownName p)) (λ t is.
-    let row : SlaveRow = record { name = name; type_index = place; outputs = unwrap_or outputs (indices_of t.process.outputs); inputs = unwrap_or inputs (indices_of t.process.inputs); serial = serial; unit = unit } in
+    let row : SlaveRow = record { name = name; type_index = place; outputs = unwrap_or outputs (indices_of t.process.outputs); inputs = unwrap_or inputs (indices_of t.process.inputs); serial = serial; unit = unit; init = init } in
     record {
       all = λ s done.
           let fits : Fits t row s = (assigned_met p t row).all s done in
@@ -136,8 +142,9 @@ slave_defaults v ts p ms found =
             inputs = λ none r at. let none_written : inputs ≡ None = hinputs none in let same : t ≡ r = cc in rw (none_written, same) refl;
             serial = hserial.1;
             unit = hunit.1;
+            init = hinit.1;
           });
-    }))))))))))
+    })))))))))))
 
 variable_defaults : (v : Format) (p : Position) (ms : Members) (found : List VariableRow) → Meets (variable_at v p ms found) (VariableDefaults ms)
 unfolding variable_at

@@ -1,5 +1,5 @@
 -- Each fault of an element carries the element's place.
-use Rattle.std.proofs.Common.{◌≡◌, ℕ, Bool, true, false, List, [], ◌∷◌, ◌++◌, ◌+◌, Result, Ok, Err, Option, Some, None, if◌then◌else◌, refl, codes, slice_get, unwrap_or, not, ◌&&◌, ◌||◌, is_some, option_and_then}
+use Rattle.std.proofs.Common.{◌≡◌, ℕ, Bool, true, false, List, [], ◌∷◌, ◌++◌, ◌+◌, Result, Ok, Err, Option, Some, None, if◌then◌else◌, refl, codes, slice_get, unwrap_or, not, ◌&&◌, ◌||◌, option_and_then}
 use Rattle.std.specs.Option.{ok_or}
 use Rattle.std.specs.Str.{bytes_eq}
 use Rattle.ec_table.specs.declared.rows.Direction.TheVariants.{Out, In}
@@ -7,6 +7,7 @@ use Rattle.toml.specs.Data.{Data, string, integer, float, boolean, datetime, arr
 use Rattle.ec_table.specs.declared.fault.Fault.{Fault}
 use Rattle.ec_table.specs.declared.fault.Fault.TheVariants.{BadKey, BadValue, TwiceNamed, UnknownName}
 use Rattle.ec_table.specs.declared.fault.Position.{Position}
+use Rattle.ec_table.specs.declared.described.Manner.{Manner}
 use Rattle.ec_table.specs.declared.rows.Format.{Format}
 use Rattle.ec_device.specs.declared.hardware.ProcessManager.{ProcessManager}
 use Rattle.ec_device.specs.declared.hardware.Hardware.{Hardware}
@@ -19,7 +20,9 @@ use Rattle.ec_table.specs.Faults.{fault_position}
 use Rattle.ec_table.specs.Fields.{◌>>=◌, must, in_range, magnitude, is_name, number_in, name_in, mailbox_of, mailbox_in, direction_in, link_bits_of, link_bits_in, number_or_0, truth_in, manager_of, manager_in, fmmus_in}
 use Rattle.ec_table.specs.InOrder.{members_in, rows_after}
 use Rattle.ec_table.specs.Pdos.{entry_of, entry_row, array_of, array_in, pdo_of, pdo_row, pdos_in, number_row, number_list, numbers_in, indices_of, has_twice}
-use Rattle.ec_table.specs.Reading.{device_in, process_in, process_twice, described, described_if, is_possible, type_at, type_named, assigned_in, all_in, same_list, slave_at, slave_named, slave_of_type, variable_at, link_at}
+use Rattle.ec_device.specs.Parameters.{bit_count}
+use Rattle.ec_table.specs.Parameters.{held, size_of, size_in, value_in, parameter_of, parameter_row, parameters_in}
+use Rattle.ec_table.specs.Reading.{device_in, process_in, process_twice, manner_in, described, described_if, is_possible, suits, type_at, type_named, assigned_in, all_in, slave_at, slave_named, slave_of_type, variable_at, link_at}
 use Rattle.ec_table.specs.Names.{is_named, index_named}
 use Rattle.ec_table.specs.Laws.{FaultsHaveTheirPosition}
 
@@ -147,9 +150,16 @@ fails_fmmus : (p : Position) (v : Option Data) → FailsAt p (fmmus_in p v)
 fails_fmmus p None = fails_ok p 4
 fails_fmmus p (Some d) = fails_number p 2 4 (Some d)
 
-fails_described : (p : Position) (process : ProcessData) (out_manager in_manager firmware fmmus revision : Option Data) → FailsAt p (described p process out_manager in_manager firmware fmmus revision)
+fails_manner : (p : Position) (fixed slow emergency : Option Data) → FailsAt p (manner_in p fixed slow emergency)
+unfolding manner_in
+fails_manner p fixed slow emergency =
+    fails_then p _ _ (fails_truth p false fixed) (λ a.
+    fails_then p _ _ (fails_number_or_0 p 100 slow) (λ b.
+    fails_then p _ _ (fails_truth p false emergency) (λ e. fails_ok p _)))
+
+fails_described : (p : Position) (process : ProcessData) (manner : Manner) (out_manager in_manager firmware fmmus revision : Option Data) → FailsAt p (described p process manner out_manager in_manager firmware fmmus revision)
 unfolding described
-fails_described p process out_manager in_manager firmware fmmus revision =
+fails_described p process manner out_manager in_manager firmware fmmus revision =
     fails_then p _ _ (fails_manager p usual_outputs out_manager) (λ a.
     fails_then p _ _ (fails_manager p usual_inputs in_manager) (λ b.
     fails_then p _ _ (fails_truth p true firmware) (λ e.
@@ -158,6 +168,18 @@ fails_described p process out_manager in_manager firmware fmmus revision =
 fails_described_if : (p : Position) (hardware : Bool) (read : Result Hardware Fault) → FailsAt p read → FailsAt p (described_if hardware read)
 fails_described_if p false read h = fails_ok p None
 fails_described_if p true read h = fails_then p read _ h (λ x. fails_ok p (Some x))
+
+fails_parameter : (p : Position) (d : Data) → FailsAt p (parameter_of p d)
+unfolding parameter_of size_in value_in
+fails_parameter p d =
+    fails_then p _ _ (fails_number p 0 65535 (at 0 d)) (λ a.
+    fails_then p _ _ (fails_number p 0 255 (at 1 d)) (λ b.
+    fails_then p _ _ (fails_then p _ _ (fails_number p 8 32 (at 2 d)) (λ bits. fails_none p (size_of bits) (BadValue p) refl)) (λ size.
+    fails_then p _ _ (fails_none p (option_and_then (held (bit_count size)) (option_and_then as_integer (at 3 d))) (BadValue p) refl) (λ n.
+    fails_then p _ _ (fails_must p _ (BadValue p) refl) (λ u. fails_ok p _)))))
+
+fails_parameters : (p : Position) (v : Option Data) → FailsAt p (parameters_in p v)
+fails_parameters p v = fails_array p (parameter_row p) 64 (λ n d found. fails_parameter p d) v
 
 fails_numbers : (p : Position) (low high : ℕ) (v : Option Data) → FailsAt p (numbers_in p low high v)
 unfolding number_list
@@ -186,7 +208,7 @@ fails_assigned : (p : Position) (t : TypeRow) (s : SlaveRow) → FailsAt p (assi
 unfolding assigned_in
 fails_assigned p t s =
     fails_then p _ _ (fails_must p (all_in s.outputs (indices_of t.process.outputs) && all_in s.inputs (indices_of t.process.inputs)) (UnknownName p) refl) (λ u.
-    fails_then p _ _ (fails_must p (is_some t.mailbox || (same_list s.outputs (indices_of t.process.outputs) && same_list s.inputs (indices_of t.process.inputs))) (BadValue p) refl) (λ w. fails_ok p s))
+    fails_then p _ _ (fails_must p (suits t s) (BadValue p) refl) (λ w. fails_ok p s))
 
 fails_type_named : (v : Format) (p : Position) (ms : Members) (name : List ℕ) (is_taken : Bool) → FailsAt p (type_named v p ms name is_taken)
 unfolding type_named
@@ -195,9 +217,10 @@ fails_type_named v p ms name is_taken =
     fails_then p _ _ (fails_mailbox p (get_member (codes "mailbox") ms)) (λ mailbox.
     fails_then p _ _ (fails_process p _ _ _ _) (λ process.
     fails_then p _ _ (fails_truth p true (get_member (codes "lrw") ms)) (λ lrw.
-    fails_then p _ _ (fails_described_if p v.hardware _ (fails_described p process _ _ _ _ _)) (λ hardware.
+    fails_then p _ _ (fails_described_if p v.hardware _ (fails_then p _ _ (fails_manner p _ _ _) (λ manner. fails_described p process manner _ _ _ _ _))) (λ hardware.
+    fails_then p _ _ (fails_parameters p (get_member (codes "init") ms)) (λ init.
     fails_then p _ _ (fails_must p (not (is_taken || process_twice process)) (TwiceNamed p) refl) (λ w.
-    fails_then p _ _ (fails_must p (is_possible mailbox hardware) (BadValue p) refl) (λ x. fails_ok p _)))))))
+    fails_then p _ _ (fails_must p (is_possible mailbox hardware init) (BadValue p) refl) (λ x. fails_ok p _))))))))
 
 pub fails_type : (v : Format) (p : Position) (ms : Members) (found : List TypeRow) → FailsAt p (type_at v p ms found)
 unfolding type_at
@@ -215,9 +238,10 @@ fails_slave v ts p ms found =
     fails_then p _ _ (fails_numbers p 0x1A00 0x1BFF (get_member (codes "in") ms)) (λ inputs.
     fails_then p _ _ (fails_number_or_0 p 4294967295 (get_member (codes "serial") ms)) (λ serial.
     fails_then p _ _ (fails_number_or_0 p 63 (get_member (codes "unit") ms)) (λ unit.
+    fails_then p _ _ (fails_parameters p (get_member (codes "init") ms)) (λ init.
     fails_then p _ _ (fails_must p (not (is_named (λ (s : SlaveRow). s.name) name found || (has_twice (unwrap_or outputs []) || has_twice (unwrap_or inputs [])))) (TwiceNamed p) refl) (λ w.
     fails_then p _ _ (fails_none p (index_named (λ (t : TypeRow). t.name) type_name ts) (UnknownName p) refl) (λ place.
-    fails_then p _ _ (fails_none p (slice_get ts place) (UnknownName p) refl) (λ t. fails_assigned p t (record { name = name; type_index = place; outputs = unwrap_or outputs (indices_of t.process.outputs); inputs = unwrap_or inputs (indices_of t.process.inputs); serial = serial; unit = unit })))))))))))
+    fails_then p _ _ (fails_none p (slice_get ts place) (UnknownName p) refl) (λ t. fails_assigned p t (record { name = name; type_index = place; outputs = unwrap_or outputs (indices_of t.process.outputs); inputs = unwrap_or inputs (indices_of t.process.inputs); serial = serial; unit = unit; init = init }))))))))))))
 
 pub fails_variable : (v : Format) (p : Position) (ms : Members) (found : List VariableRow) → FailsAt p (variable_at v p ms found)
 unfolding variable_at

@@ -1,7 +1,7 @@
 -- The values under the keys of a table, found in one pass over its members.
-use Rattle.std.proofs.Common.{drop, ◌≡◌, ◌≢◌, ◌<◌, ◌≤◌, ◌+◌, ℕ, slice_set, get_or-set_same, get_or-set_other, Bool, true, false, ◌&&◌, ◌||◌, not, List, [], ◌∷◌, ◌++◌, length, map, get_or, Option, Some, None, is_some, Ordering, Less, Equal, Greater, nat_cmp, Bor, codes, refl, ap, sym, ◌∙◌, subst, arith}
+use Rattle.std.proofs.Common.{◌≡◌, ◌≢◌, ◌<◌, ◌≤◌, ◌+◌, ℕ, slice_set, get_or-set_same, get_or-set_other, Bool, true, false, ◌&&◌, ◌||◌, not, List, [], ◌∷◌, ◌++◌, length, map, get_or, Option, Some, None, is_some, if◌then◌else◌, Ordering, Less, Equal, Greater, nat_cmp, Bor, codes, refl, ap, sym, ◌∙◌, subst, arith}
 use mathlib.Core.Bool.{cond}
-use Rattle.std.specs.List.{list_all, list_any, position, position_or_len, zip}
+use Rattle.std.specs.List.{list_all, list_any, position, position_or_len}
 use Rattle.std.specs.Str.{bytes_eq}
 use Rattle.std.specs.Cmp.Lexicographic.{slice_cmp}
 use Rattle.std.specs.Ordering.{match_ordering, is_eq}
@@ -10,7 +10,7 @@ use Rattle.std.proofs.lemmas.Slice.Eq.{bytes_eq-Decides}
 use Rattle.std.proofs.lemmas.Map.Text.{is_eq-slice_cmp}
 use Rattle.std.specs.Prelude.{nat_lt}
 use Rattle.std.proofs.lemmas.Bool.Decides.{nat_tests}
-use Rattle.std.proofs.lemmas.List.{length-map, drop_more, get_or-map}
+use Rattle.std.proofs.lemmas.List.{length-map, get_or-map}
 use Rattle.std.proofs.lemmas.List.Sums.{passes_at_first}
 use Rattle.std.proofs.lemmas.List.Folds.{list_any-append}
 use Rattle.toml.specs.Data.{Data, Members, no_members, member, get_member}
@@ -23,7 +23,7 @@ use Rattle.ec_table.specs.declared.rows.Format.{Format}
 use Rattle.ec_table.specs.declared.rows.Version.{Version}
 use Rattle.ec_table.specs.declared.rows.Version.TheVariants as versions
 use Rattle.ec_table.specs.Fields.{viewed, full_format, required, optional, is_key, each_key, has_required, keys_are}
-use Rattle.ec_table.specs.Keys.{KeyRow, key_row, keys_of, names_of, rule_at}
+use Rattle.ec_table.specs.Keys.{KeyRow, key_row, keys_of, names_of, place_in, rule_at}
 use Rattle.ec_table.specs.Values.{AreUnder}
 use Rattle.ec_table.proofs.NameIndex.{has_place}
 use Rattle.ec_table.proofs.OnePass.{one_more_key, or_none}
@@ -97,8 +97,10 @@ keys_in shape.Document v h = (refl, refl, refl, refl)
 keys_in shape.Type v false = (refl, refl, refl, refl)
 keys_in shape.Type v true = (refl, refl, refl, refl)
 keys_in shape.Pdo v h = (refl, refl, refl, refl)
-keys_in shape.Slave versions.One h = (refl, refl, refl, refl)
-keys_in shape.Slave versions.Two h = (refl, refl, refl, refl)
+keys_in shape.Slave versions.One false = (refl, refl, refl, refl)
+keys_in shape.Slave versions.One true = (refl, refl, refl, refl)
+keys_in shape.Slave versions.Two false = (refl, refl, refl, refl)
+keys_in shape.Slave versions.Two true = (refl, refl, refl, refl)
 keys_in shape.Variable v false = (refl, refl, refl, refl)
 keys_in shape.Variable v true = (refl, refl, refl, refl)
 keys_in shape.Link v h = (refl, refl, refl, refl)
@@ -111,6 +113,56 @@ pub has_key : (s : Shape) (v : Format) (key : List ℕ) → is_some (position (b
 has_key s v key =
     let (to, back, _, _) = of_keys s v in
     has_place (bytes_eq key) (names_of s v) ∙ (same_any key (names_of s v) (required s v ++ optional s v) to back ∙ list_any-append (bytes_eq key) (required s v) (optional s v))
+
+known_if : (b : Bool) (o : Option ℕ) (i : ℕ) → (if b then o else None) ≡ Some i → (b ≡ true) × (o ≡ Some i)
+known_if true o i h = (refl, h)
+known_if false o i h = absurd (let z : None ≡ Some i = h in cc)
+
+-- a key with a place is known, and the place is that among all keys of its shape
+pub known_place : (s : Shape) (f : Format) (key : List ℕ) (i : ℕ) → place_in s f key ≡ Some i → (is_key s f key ≡ true) × (position (bytes_eq key) (names_of s full_format) ≡ Some i)
+known_place s f key i h =
+    let both = known_if (is_some (position (bytes_eq key) (names_of s f))) (position (bytes_eq key) (names_of s full_format)) i h in
+    (sym (has_key s f key) ∙ both.0, both.1)
+
+-- a key without a place isn't known: each key of a format is one of all
+unknown_if : (b : Bool) (o : Option ℕ) → (b ≡ true → is_some o ≡ true) → (if b then o else None) ≡ None → b ≡ false
+unknown_if true (Some i) h e = absurd (let z : Some i ≡ None = e in cc)
+unknown_if true None h e = absurd (let z : false ≡ true = h refl in cc)
+unknown_if false o h e = refl
+
+among_all : (s : Shape) (v : Version) (hardware : Bool) → AreAmong (names_of s (format v hardware)) (names_of s full_format)
+among_all shape.Document v h = refl
+among_all shape.Type v false = refl
+among_all shape.Type v true = refl
+among_all shape.Pdo v h = refl
+among_all shape.Slave versions.One false = refl
+among_all shape.Slave versions.One true = refl
+among_all shape.Slave versions.Two false = refl
+among_all shape.Slave versions.Two true = refl
+among_all shape.Variable v false = refl
+among_all shape.Variable v true = refl
+among_all shape.Link v h = refl
+
+pub no_place : (s : Shape) (f : Format) (key : List ℕ) → place_in s f key ≡ None → is_key s f key ≡ false
+no_place s f key e =
+    let here : (is_some (position (bytes_eq key) (names_of s f)) ≡ true) → is_some (position (bytes_eq key) (names_of s full_format)) ≡ true
+    = λ h. has_place (bytes_eq key) (names_of s full_format) ∙ any_among key (names_of s f) (names_of s full_format) (among_all s f.version f.hardware) (sym (has_place (bytes_eq key) (names_of s f)) ∙ h) in
+    sym (has_key s f key) ∙ unknown_if (is_some (position (bytes_eq key) (names_of s f))) (position (bytes_eq key) (names_of s full_format)) here e
+
+-- what the place of a name is where it is no key of the format, and where it is one
+unplaced_if : (b : Bool) (o : Option ℕ) → b ≡ false → None ≡ (if b then o else None)
+unplaced_if true o h = absurd (let z : true ≡ false = h in cc)
+unplaced_if false o h = refl
+
+pub unplaced : (s : Shape) (f : Format) (name : List ℕ) (r : Option ℕ) → None ≡ position (bytes_eq name) (names_of s f) → r ≡ None → r ≡ place_in s f name
+unplaced s f name r none is = is ∙ unplaced_if (is_some (position (bytes_eq name) (names_of s f))) (position (bytes_eq name) (names_of s full_format)) (ap is_some (sym none))
+
+placed_if : (b : Bool) (o : Option ℕ) → b ≡ true → o ≡ (if b then o else None)
+placed_if true o h = refl
+placed_if false o h = absurd (let z : false ≡ true = h in cc)
+
+pub placed : (s : Shape) (f : Format) (name : List ℕ) (i : ℕ) (r : Option ℕ) → Some i ≡ position (bytes_eq name) (names_of s f) → r ≡ position (bytes_eq name) (names_of s full_format) → r ≡ place_in s f name
+placed s f name i r some is = is ∙ placed_if (is_some (position (bytes_eq name) (names_of s f))) (position (bytes_eq name) (names_of s full_format)) (ap is_some (sym some))
 
 first_mapped : {A B : Type 0} (p : B → Bool) (f : A → B) (xs : List A) → position_or_len p (map f xs) ≡ position_or_len (λ x. p (f x)) xs
 first_mapped p f [] = refl
@@ -191,56 +243,17 @@ Found found keys ms = (name : List ℕ) (i : ℕ) → position (bytes_eq name) k
 pub found_all : (found : List (Option (Bor Value))) (keys : List (List ℕ)) (ms : Members) → Finds found keys no_members ms → Found found keys ms
 found_all found keys ms h name i is = sym (or_none (viewed (get_or found i None))) ∙ h name i is
 
-other : (test : List ℕ → Bool) (name : List ℕ) → test name ≡ false → (key : List ℕ) (d : Data) (rest : Option Data) → test key ≡ true → rest ≡ None → (o : Ordering) (b : Bool) → is_eq o ≡ b → bytes_eq name key ≡ b → match_ordering o rest (Some d) rest ≡ None
-other test name unknown key d rest known none Less b e h = none
-other test name unknown key d rest known none Greater b e h = none
-other test name unknown key d rest known none Equal b e h = let same : name ≡ key = (bytes_eq-Decides name key).0 (h ∙ sym e) in let f = ap test same in absurd (cc)
-
--- a key that each member's key isn't has no value
-not_there : (test : List ℕ → Bool) (name : List ℕ) → test name ≡ false → (ms : Members) → each_key test ms ≡ true → get_member name ms ≡ None
-not_there test name unknown no_members each = refl
-not_there test name unknown (member key d ms) each =
-    let two : (test key ≡ true) × (each_key test ms ≡ true) = both (test key) (each_key test ms) each in
-    other test name unknown key d (get_member name ms) two.0 (not_there test name unknown ms two.1) (slice_cmp nat_cmp name key) (bytes_eq name key) (is_eq-slice_cmp name key) refl
-
-under_in : (s : Shape) (v : Version) (hardware : Bool) (found : List (Option (Bor Value))) (ms : Members) → Found found (names_of s (format v hardware)) ms → AreUnder found 0 (names_of s (format v hardware)) ms
-under_in shape.Document v b found ms h = (h (codes "version") 0 refl, (h (codes "hardware") 1 refl, (h (codes "type") 2 refl, (h (codes "slave") 3 refl, (h (codes "variable") 4 refl, (h (codes "link") 5 refl, tt))))))
-under_in shape.Type v false found ms h = (h (codes "name") 0 refl, (h (codes "vendor") 1 refl, (h (codes "product") 2 refl, (h (codes "revision") 3 refl, (h (codes "mailbox") 4 refl, (h (codes "out_start") 5 refl, (h (codes "in_start") 6 refl, (h (codes "rxpdo") 7 refl, (h (codes "txpdo") 8 refl, (h (codes "lrw") 9 refl, tt))))))))))
-under_in shape.Type v true found ms h = (h (codes "name") 0 refl, (h (codes "vendor") 1 refl, (h (codes "product") 2 refl, (h (codes "revision") 3 refl, (h (codes "mailbox") 4 refl, (h (codes "out_start") 5 refl, (h (codes "in_start") 6 refl, (h (codes "rxpdo") 7 refl, (h (codes "txpdo") 8 refl, (h (codes "lrw") 9 refl, (h (codes "out_manager") 10 refl, (h (codes "in_manager") 11 refl, (h (codes "firmware") 12 refl, (h (codes "fmmus") 13 refl, tt))))))))))))))
-under_in shape.Pdo v b found ms h = (h (codes "index") 0 refl, (h (codes "entries") 1 refl, tt))
-under_in shape.Slave versions.One b found ms h = (h (codes "name") 0 refl, (h (codes "type") 1 refl, (h (codes "out") 2 refl, (h (codes "in") 3 refl, (h (codes "serial") 4 refl, tt)))))
-under_in shape.Slave versions.Two b found ms h = (h (codes "name") 0 refl, (h (codes "type") 1 refl, (h (codes "out") 2 refl, (h (codes "in") 3 refl, (h (codes "serial") 4 refl, (h (codes "unit") 5 refl, tt))))))
-under_in shape.Variable v false found ms h = (h (codes "name") 0 refl, (h (codes "dir") 1 refl, (h (codes "bits") 2 refl, tt)))
-under_in shape.Variable v true found ms h = (h (codes "name") 0 refl, (h (codes "dir") 1 refl, (h (codes "bits") 2 refl, (h (codes "signed") 3 refl, tt))))
-under_in shape.Link v b found ms h = (h (codes "var") 0 refl, (h (codes "slave") 1 refl, (h (codes "index") 2 refl, (h (codes "sub") 3 refl, (h (codes "bits") 4 refl, tt)))))
-
-under_known : (s : Shape) (f : Format) (found : List (Option (Bor Value))) (ms : Members) → Found found (names_of s f) ms → AreUnder found 0 (names_of s f) ms
-under_known s f found ms h = under_in s f.version f.hardware found ms h
-
--- nothing stands under a key that the format doesn't have
-not_under : (s : Shape) (f : Format) (found : List (Option (Bor Value))) (ms : Members) → ((i : ℕ) → length (names_of s f) ≤ i → get_or found i None ≡ None) → each_key (is_key s f) ms ≡ true
-    → (name : List ℕ) (i : ℕ) → is_key s f name ≡ false → length (names_of s f) ≤ i → viewed (get_or found i None) ≡ get_member name ms
-not_under s f found ms none each name i unknown past = ap viewed (none i past) ∙ sym (not_there (is_key s f) name unknown ms each)
-
--- a key that the format doesn't have has no value, as nothing was found of it
-all_in : (s : Shape) (v : Version) (hardware : Bool) (found : List (Option (Bor Value))) (ms : Members) → Found found (names_of s (format v hardware)) ms
-    → ((name : List ℕ) (i : ℕ) → is_key s (format v hardware) name ≡ false → length (names_of s (format v hardware)) ≤ i → viewed (get_or found i None) ≡ get_member name ms) → AreUnder found 0 (names_of s full_format) ms
-all_in shape.Document v b found ms h n = (h (codes "version") 0 refl, (h (codes "hardware") 1 refl, (h (codes "type") 2 refl, (h (codes "slave") 3 refl, (h (codes "variable") 4 refl, (h (codes "link") 5 refl, tt))))))
-all_in shape.Type v false found ms h n = (h (codes "name") 0 refl, (h (codes "vendor") 1 refl, (h (codes "product") 2 refl, (h (codes "revision") 3 refl, (h (codes "mailbox") 4 refl, (h (codes "out_start") 5 refl, (h (codes "in_start") 6 refl, (h (codes "rxpdo") 7 refl, (h (codes "txpdo") 8 refl, (h (codes "lrw") 9 refl, (n (codes "out_manager") 10 refl (omega arith), (n (codes "in_manager") 11 refl (omega arith), (n (codes "firmware") 12 refl (omega arith), (n (codes "fmmus") 13 refl (omega arith), tt))))))))))))))
-all_in shape.Type v true found ms h n = (h (codes "name") 0 refl, (h (codes "vendor") 1 refl, (h (codes "product") 2 refl, (h (codes "revision") 3 refl, (h (codes "mailbox") 4 refl, (h (codes "out_start") 5 refl, (h (codes "in_start") 6 refl, (h (codes "rxpdo") 7 refl, (h (codes "txpdo") 8 refl, (h (codes "lrw") 9 refl, (h (codes "out_manager") 10 refl, (h (codes "in_manager") 11 refl, (h (codes "firmware") 12 refl, (h (codes "fmmus") 13 refl, tt))))))))))))))
-all_in shape.Pdo v b found ms h n = (h (codes "index") 0 refl, (h (codes "entries") 1 refl, tt))
-all_in shape.Slave versions.One b found ms h n = (h (codes "name") 0 refl, (h (codes "type") 1 refl, (h (codes "out") 2 refl, (h (codes "in") 3 refl, (h (codes "serial") 4 refl, (n (codes "unit") 5 refl (omega arith), tt))))))
-all_in shape.Slave versions.Two b found ms h n = (h (codes "name") 0 refl, (h (codes "type") 1 refl, (h (codes "out") 2 refl, (h (codes "in") 3 refl, (h (codes "serial") 4 refl, (h (codes "unit") 5 refl, tt))))))
-all_in shape.Variable v false found ms h n = (h (codes "name") 0 refl, (h (codes "dir") 1 refl, (h (codes "bits") 2 refl, (n (codes "signed") 3 refl (omega arith), tt))))
-all_in shape.Variable v true found ms h n = (h (codes "name") 0 refl, (h (codes "dir") 1 refl, (h (codes "bits") 2 refl, (h (codes "signed") 3 refl, tt))))
-all_in shape.Link v b found ms h n = (h (codes "var") 0 refl, (h (codes "slave") 1 refl, (h (codes "index") 2 refl, (h (codes "sub") 3 refl, (h (codes "bits") 4 refl, tt)))))
-
-pub under_all : (s : Shape) (f : Format) (found : List (Option (Bor Value))) (ms : Members) → Found found (names_of s f) ms → ((i : ℕ) → length (names_of s f) ≤ i → get_or found i None ≡ None) → each_key (is_key s f) ms ≡ true → AreUnder found 0 (names_of s full_format) ms
-under_all s f found ms h none each = all_in s f.version f.hardware found ms h (not_under s f found ms none each)
+under_in : (s : Shape) (found : List (Option (Bor Value))) (ms : Members) → Found found (names_of s full_format) ms → AreUnder found 0 (names_of s full_format) ms
+under_in shape.Document found ms h = (h (codes "version") 0 refl, (h (codes "hardware") 1 refl, (h (codes "type") 2 refl, (h (codes "slave") 3 refl, (h (codes "variable") 4 refl, (h (codes "link") 5 refl, tt))))))
+under_in shape.Type found ms h = (h (codes "name") 0 refl, (h (codes "vendor") 1 refl, (h (codes "product") 2 refl, (h (codes "revision") 3 refl, (h (codes "mailbox") 4 refl, (h (codes "out_start") 5 refl, (h (codes "in_start") 6 refl, (h (codes "rxpdo") 7 refl, (h (codes "txpdo") 8 refl, (h (codes "lrw") 9 refl, (h (codes "out_manager") 10 refl, (h (codes "in_manager") 11 refl, (h (codes "firmware") 12 refl, (h (codes "fixed") 13 refl, (h (codes "init") 14 refl, (h (codes "slow") 15 refl, (h (codes "emergency") 16 refl, (h (codes "fmmus") 17 refl, tt))))))))))))))))))
+under_in shape.Pdo found ms h = (h (codes "index") 0 refl, (h (codes "entries") 1 refl, tt))
+under_in shape.Slave found ms h = (h (codes "name") 0 refl, (h (codes "type") 1 refl, (h (codes "out") 2 refl, (h (codes "in") 3 refl, (h (codes "serial") 4 refl, (h (codes "unit") 5 refl, (h (codes "init") 6 refl, tt)))))))
+under_in shape.Variable found ms h = (h (codes "name") 0 refl, (h (codes "dir") 1 refl, (h (codes "bits") 2 refl, (h (codes "signed") 3 refl, tt))))
+under_in shape.Link found ms h = (h (codes "var") 0 refl, (h (codes "slave") 1 refl, (h (codes "index") 2 refl, (h (codes "sub") 3 refl, (h (codes "bits") 4 refl, tt)))))
 
 -- ---- the keys that a table must have
 
-is_seen : (o : Option (Bor Value)) → is_some o ≡ is_some (viewed o)
+pub is_seen : (o : Option (Bor Value)) → is_some o ≡ is_some (viewed o)
 is_seen None = refl
 is_seen (Some x) = refl
 
@@ -248,47 +261,36 @@ is_seen (Some x) = refl
 abbrev HasNeeded : List KeyRow → Members → Bool
 HasNeeded keys ms = list_all (λ (k : KeyRow). not k.2 || is_some (get_member k.0 ms)) keys
 
-needed_from : (found : List (Option (Bor Value))) (place : ℕ) (keys : List CodeKey) (ms : Members) → place + length keys ≤ length found → AreUnder found place (map (λ (k : KeyRow). k.0) (map key_row keys)) ms
-    → list_all (λ (p : CodeKey × Option (Bor Value)). not p.0.2 || is_some p.1) (zip keys (drop place found)) ≡ HasNeeded (map key_row keys) ms
-needed_from found place [] ms long h = refl
-needed_from found place (key ∷ keys) ms long h =
-    let rest = needed_from found (place + 1) keys ms (omega arith) h.1 in
-    rw (drop_more found place None (omega arith), is_seen (get_or found place None), h.0, rest) refl
+-- the same of the keys of the code
+abbrev HasAll : List CodeKey → Members → Bool
+HasAll keys ms = list_all (λ (k : CodeKey). not k.2 || is_some (get_member k.0.now ms)) keys
+
+needed_from : (keys : List CodeKey) (ms : Members) → HasAll keys ms ≡ HasNeeded (map key_row keys) ms
+needed_from [] ms = refl
+needed_from (key ∷ keys) ms = ap (λ b. (not key.2 || is_some (get_member key.0.now ms)) && b) (needed_from keys ms)
 
 needed_all : (keys : List KeyRow) (ms : Members) → HasNeeded keys ms ≡ list_all (λ key. is_some (get_member key ms)) (needed keys)
 needed_all [] ms = refl
 needed_all ((name, rule, true) ∷ keys) ms = ap (λ b. is_some (get_member name ms) && b) (needed_all keys ms)
 needed_all ((name, rule, false) ∷ keys) ms = needed_all keys ms
 
-few_in : (s : Shape) (v : Version) (hardware : Bool) → length (names_of s (format v hardware)) ≤ 14
-few_in shape.Document v b = omega arith
-few_in shape.Type v false = omega arith
-few_in shape.Type v true = omega arith
-few_in shape.Pdo v b = omega arith
-few_in shape.Slave versions.One b = omega arith
-few_in shape.Slave versions.Two b = omega arith
-few_in shape.Variable v false = omega arith
-few_in shape.Variable v true = omega arith
-few_in shape.Link v b = omega arith
-
-few_keys : (s : Shape) (f : Format) → length (names_of s f) ≤ 14
-few_keys s f = few_in s f.version f.hardware
-
-pub has_all : (s : Shape) (v : Format) (keys : List CodeKey) (found : List (Option (Bor Value))) (ms : Members) → map key_row keys ≡ keys_of s v → length found ≡ 14 → Found found (names_of s v) ms
-    → list_all (λ (p : CodeKey × Option (Bor Value)). not p.0.2 || is_some p.1) (zip keys found) ≡ has_required s v ms
-has_all s v keys found ms all long h =
-    let few : length keys ≤ 14 = omega (arith, few_keys s v, length-map keys key_row, ap length all, length-map (keys_of s v) (λ k. k.0)) in
+has_all : (s : Shape) (v : Format) (keys : List CodeKey) (ms : Members) → map key_row keys ≡ keys_of s v → HasAll keys ms ≡ has_required s v ms
+has_all s v keys ms all =
     let (_, _, to, back) = of_keys s v in
-    let under : AreUnder found 0 (map (λ (k : KeyRow). k.0) (map key_row keys)) ms = subst (λ (ks : List KeyRow). AreUnder found 0 (map (λ k. k.0) ks) ms) (sym all) (under_known s v found ms h) in
-    needed_from found 0 keys ms (omega arith) under ∙ (ap (λ ks. HasNeeded ks ms) all ∙ (needed_all (keys_of s v) ms ∙ same_all (λ key. is_some (get_member key ms)) (needed (keys_of s v)) (required s v) to back))
+    needed_from keys ms ∙ (ap (λ ks. HasNeeded ks ms) all ∙ (needed_all (keys_of s v) ms ∙ same_all (λ key. is_some (get_member key ms)) (needed (keys_of s v)) (required s v) to back))
+
+-- a member whose key isn't known
+pub keys_not : (s : Shape) (f : Format) (ms rest : Members) (key : List ℕ) (d : Data) → each_key (is_key s f) (member key d rest) ≡ each_key (is_key s f) ms → is_key s f key ≡ false → false ≡ keys_are s f ms
+keys_not s f ms rest key d each bad =
+    let none : each_key (is_key s f) ms ≡ false = sym each ∙ ap (λ (b : Bool). b && each_key (is_key s f) rest) bad in
+    ap (λ (b : Bool). b && has_required s f ms) (sym none)
 
 -- after the last member: whether the keys are as they must be, and what stands under each
-module _ (s : Shape) (v : Format) (found : List (Option (Bor Value))) (ms : Members) (each : each_key (is_key s v) no_members ≡ each_key (is_key s v) ms) (long : length found ≡ 14) (finds : Finds found (names_of s v) no_members ms) where
-  pub keys_at_end : (keys : List CodeKey) → map key_row keys ≡ keys_of s v → list_all (λ (p : CodeKey × Option (Bor Value)). not p.0.2 || is_some p.1) (zip keys found) ≡ keys_are s v ms
-  keys_at_end keys all = has_all s v keys found ms all long (found_all found (names_of s v) ms finds) ∙ ap (λ b. b && has_required s v ms) each
+pub keys_at_end : (s : Shape) (v : Format) (ms : Members) (keys : List CodeKey) → each_key (is_key s v) no_members ≡ each_key (is_key s v) ms → map key_row keys ≡ keys_of s v → HasAll keys ms ≡ keys_are s v ms
+keys_at_end s v ms keys each all = has_all s v keys ms all ∙ ap (λ b. b && has_required s v ms) each
 
-  pub values_at_end : ((i : ℕ) → length (names_of s v) ≤ i → get_or found i None ≡ None) → AreUnder found 0 (names_of s full_format) ms
-  values_at_end none = under_all s v found ms (found_all found (names_of s v) ms finds) none (sym each)
+pub values_at_end : (s : Shape) (found : List (Option (Bor Value))) (ms : Members) → Finds found (names_of s full_format) no_members ms → AreUnder found 0 (names_of s full_format) ms
+values_at_end s found ms finds = under_in s found ms (found_all found (names_of s full_format) ms finds)
 
 -- ---- places
 
@@ -296,8 +298,16 @@ before_end : {X : Type 0} (p : X → Bool) (xs : List X) (i : ℕ) (b : Bool) �
 before_end p xs i true lt is = let e : position_or_len p xs ≡ i = cc in grind (arith, nat_tests)
 before_end p xs i false lt is = absurd (cc)
 
--- a place of a key is below their number, and one of fourteen
-pub place_inside : (s : Shape) (v : Format) (key : List ℕ) (i : ℕ) → position (bytes_eq key) (names_of s v) ≡ Some i → (i < length (names_of s v)) × (i < 14)
-place_inside s v key i is =
-    let inside : i < length (names_of s v) = before_end (bytes_eq key) (names_of s v) i (nat_lt (position_or_len (bytes_eq key) (names_of s v)) (length (names_of s v))) refl is in
-    (inside, omega (arith, few_keys s v))
+few_keys : (s : Shape) → length (names_of s full_format) ≤ 18
+few_keys shape.Document = omega arith
+few_keys shape.Type = omega arith
+few_keys shape.Pdo = omega arith
+few_keys shape.Slave = omega arith
+few_keys shape.Variable = omega arith
+few_keys shape.Link = omega arith
+
+-- a place of a key is one of eighteen
+pub place_inside : (s : Shape) (key : List ℕ) (i : ℕ) → position (bytes_eq key) (names_of s full_format) ≡ Some i → i < 18
+place_inside s key i is =
+    let inside : i < length (names_of s full_format) = before_end (bytes_eq key) (names_of s full_format) i (nat_lt (position_or_len (bytes_eq key) (names_of s full_format)) (length (names_of s full_format))) refl is in
+    omega (arith, inside, few_keys s)

@@ -21,6 +21,10 @@ pub mod Ranges
 -- what was read is sound: values and rows, and the whole
 pub mod SoundReads
 pub mod SoundRows
+-- a number as so many bits hold it
+pub mod Held
+-- the downloads to a slave of a sound table
+pub mod InitJoined
 -- how many entries and bits a slave's objects have
 pub mod ObjectLemmas
 -- a sound table is sound whether or not it is advertised in full

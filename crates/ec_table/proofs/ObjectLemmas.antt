@@ -19,6 +19,7 @@ use Rattle.ec_table.specs.declared.rows.TypeRow.{TypeRow}
 use Rattle.ec_table.specs.declared.rows.SlaveRow.{SlaveRow}
 use Rattle.ec_table.specs.Contents.{Contents, pdos_toward, assigned_toward}
 use Rattle.ec_table.specs.Pdos.{indices_of}
+use Rattle.ec_device.specs.Hardware.{is_assignable}
 use Rattle.ec_device.specs.Types.{IsEntry, IsPdo, ArePdos}
 use Rattle.ec_device.specs.Objects.{entries_at, assigned_entries, bits_of, entry_bits}
 use Rattle.ec_table.specs.Sound.{IsOnce, IsType, IsAssignment, IsSlave, AreSlaves, first_index}
@@ -59,7 +60,7 @@ entry_count direction pdos [] h = omega arith
 entry_count direction pdos (x ∷ xs) h = simp length-append (omega (arith, (entries_met direction pdos x h).few, entry_count direction pdos xs h))
 
 -- sixteen objects at most
-pub few_entries : (direction : Direction) (t : TypeRow) (s : SlaveRow) → ArePdos (first_index direction) (pdos_toward direction t) → IsAssignment t.mailbox (pdos_toward direction t) (assigned_toward direction s) → length (assigned_entries (pdos_toward direction t) (assigned_toward direction s)) ≤ 1024
+pub few_entries : (direction : Direction) (t : TypeRow) (s : SlaveRow) → ArePdos (first_index direction) (pdos_toward direction t) → IsAssignment (is_assignable t.mailbox t.hardware) (pdos_toward direction t) (assigned_toward direction s) → length (assigned_entries (pdos_toward direction t) (assigned_toward direction s)) ≤ 1024
 few_entries direction t s h a =
     let pdos : List Pdo = pdos_toward direction t in
     let indices : List ℕ = assigned_toward direction s in

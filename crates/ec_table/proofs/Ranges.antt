@@ -11,7 +11,7 @@ use Rattle.ec_table.specs.declared.rows.Direction.TheVariants.{Out, In}
 use Rattle.ec_table.specs.declared.rows.TypeRow.{TypeRow}
 use Rattle.ec_table.specs.Contents.{pdos_toward}
 use Rattle.ec_table.specs.Pdos.{indices_of}
-use Rattle.ec_table.specs.Sound.{IsName, IsOnce, IsDevice, HasMailboxStarts, HasName, IsDescribed, IsType, first_index}
+use Rattle.ec_table.specs.Sound.{IsName, IsOnce, IsDevice, HasMailboxStarts, HasName, IsDescribed, AreDownloads, IsType, first_index}
 
 pub record ReadMailbox (m : Mailbox) : Type 0 where
   pub receive_start : m.receive_start ≤ 65535
@@ -63,8 +63,8 @@ pdos_limits d pdos h = record { few = h.few; each = λ k e lt. pdo_limits d _ (h
 mailbox_limits : (o : Option Mailbox) → ((m : Mailbox) → o ≡ Some m → ReadMailbox m) → ForSome o IsMailbox
 mailbox_limits o h = λ m is. record { receive_some = (h m is).receive_least; receive_few = (h m is).receive_most; send_some = (h m is).send_least; send_few = (h m is).send_most }
 
-pub type_read : (t : TypeRow) → IsName t.name → IsDevice t.device → ((m : Mailbox) → t.mailbox ≡ Some m → ReadMailbox m) → t.process.out_start ≤ 65535 → t.process.in_start ≤ 65535 → ((d : Direction) → ReadPdos d (pdos_toward d t)) → ForSome t.hardware (IsDescribed t) → IsType t
-type_read t name device mailbox out_start in_start pdos hardware = record {
+pub type_read : (t : TypeRow) → IsName t.name → IsDevice t.device → ((m : Mailbox) → t.mailbox ≡ Some m → ReadMailbox m) → t.process.out_start ≤ 65535 → t.process.in_start ≤ 65535 → ((d : Direction) → ReadPdos d (pdos_toward d t)) → ForSome t.hardware (IsDescribed t) → AreDownloads t.mailbox t.init → IsType t
+type_read t name device mailbox out_start in_start pdos hardware init = record {
   name = name;
   device = device;
   limits = record { mailbox = mailbox_limits t.mailbox mailbox; outputs = pdos_limits Out t.process.outputs (pdos Out); inputs = pdos_limits In t.process.inputs (pdos In) };
@@ -73,6 +73,7 @@ type_read t name device mailbox out_start in_start pdos hardware = record {
   in_start = in_start;
   entries = λ d k q lt i e within. let is : ReadEntry _ = ((pdos d).each k q lt).entries i e within in record { index = is.index; subindex = is.subindex };
   hardware = hardware;
+  init = init;
 }
 
 -- ---- and back

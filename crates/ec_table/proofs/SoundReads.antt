@@ -1,5 +1,5 @@
 -- What was read is sound.
-use Rattle.std.proofs.Common.{◌≡◌, ◌≢◌, ℕ, ◌<◌, ◌≤◌, Bool, true, false, not, ◌&&◌, ◌||◌, ◌==◌, List, [], ◌∷◌, ◌++◌, length, get_or, Result, Option, Some, None, is_some, All, nat_le, is_none, ◌%◌, subst, arith, refl, sym, ◌∙◌, codes}
+use Rattle.std.proofs.Common.{◌≡◌, ◌≢◌, ℕ, ◌<◌, ◌≤◌, Bool, true, false, not, ◌&&◌, ◌||◌, ◌==◌, List, [], ◌∷◌, ◌++◌, length, get_or, Result, Option, Some, None, is_some, All, nat_le, is_none, ◌%◌, ◌+◌, ◌-◌, ◌^◌, nat_lt, ℤ, pos, negsuc, option_and_then, if◌then◌else◌, lit<, subst, arith, refl, sym, ◌∙◌, codes}
 use Rattle.std.specs.List.{list_any}
 use Rattle.std.specs.Option.{ForSome}
 use Rattle.std.specs.Str.{bytes_eq}
@@ -15,15 +15,20 @@ use Rattle.std.proofs.lemmas.Bool.{or_parts, and_parts}
 use Rattle.std.proofs.lemmas.List.Folds.{list_any_at}
 use Rattle.std.proofs.lemmas.List.Quantifiers.{all_pairs_push}
 use Rattle.std.proofs.lemmas.List.Kept.{AllPairs-cons}
-use Rattle.toml.specs.Data.{Data, Members, no_members, member, Items, get_member, at}
+use Rattle.toml.specs.Data.{Data, Members, no_members, member, Items, get_member, at, as_integer}
 use Rattle.ec_device.specs.declared.slave_type.Mailbox.{Mailbox}
 use Rattle.ec_device.specs.declared.slave_type.Device.{Device}
 use Rattle.ec_device.specs.declared.hardware.ProcessManager.{ProcessManager}
 use Rattle.ec_device.specs.declared.hardware.Hardware.{Hardware}
+use Rattle.ec_device.specs.declared.parameter.Parameter.{Parameter}
+use Rattle.ec_device.specs.declared.parameter.ParameterSize.{ParameterSize}
+use Rattle.ec_device.specs.declared.parameter.ParameterSize.TheVariants as sizes
+use Rattle.ec_device.specs.Parameters.{bit_count}
 use Rattle.ec_device.specs.Hardware.{IsBesideMailbox, IsHardware, usual_outputs, usual_inputs, are_pins}
 use Rattle.ec_table.specs.declared.fault.Fault.{Fault}
 use Rattle.ec_table.specs.declared.fault.Fault.TheVariants.{BadKey, BadValue, TwiceNamed}
 use Rattle.ec_table.specs.declared.fault.Position.{Position}
+use Rattle.ec_table.specs.declared.described.Manner.{Manner}
 use Rattle.ec_table.specs.declared.rows.Format.{Format}
 use Rattle.ec_table.specs.declared.rows.Version.{Version}
 use Rattle.ec_table.specs.declared.rows.Direction.{Direction}
@@ -33,14 +38,15 @@ use Rattle.ec_table.specs.declared.rows.TypeRow.{TypeRow}
 use Rattle.ec_table.specs.declared.rows.VariableRow.{VariableRow}
 use Rattle.ec_table.specs.declared.keys.Shape.TheVariants as shape
 use Rattle.ec_table.specs.Contents.{pdos_toward}
-use Rattle.ec_table.specs.Fields.{◌>>=◌, must, each_key, is_key, has_required, keys_are, mailbox_of, mailbox_in, direction_in, truth_in, number_or_0, manager_of, manager_in, fmmus_in}
+use Rattle.ec_table.specs.Fields.{◌>>=◌, each_key, is_key, has_required, keys_are, mailbox_of, mailbox_in, direction_in, truth_in, number_or_0, manager_of, manager_in, fmmus_in}
 use Rattle.ec_table.specs.InOrder.{members_in, rows_after}
 use Rattle.ec_table.specs.Pdos.{entry_of, entry_row, array_of, array_in, pdo_of, pdo_row, pdos_in, indices_of, has_twice}
-use Rattle.ec_table.specs.Reading.{device_in, process_in, process_twice, described, described_if, can_be, is_possible, type_at, type_named, type_element, variable_at, variable_element}
+use Rattle.ec_table.specs.Parameters.{held, size_in, value_in, parameter_of, parameter_row, parameters_in, are_taken}
+use Rattle.ec_table.specs.Reading.{device_in, process_in, process_twice, manner_in, described, described_if, can_be, can_be_if, is_possible, type_at, type_named, type_element, variable_at, variable_element}
 use Rattle.ec_table.specs.Names.{is_named}
-use Rattle.ec_table.specs.Sound.{IsOnce, IsDevice, IsDescribed, IsType, AreTypes, IsVariable, AreVariables, first_index}
+use Rattle.ec_table.specs.Sound.{IsOnce, IsDevice, IsDescribed, IsDownload, AreDownloads, IsType, AreTypes, IsVariable, AreVariables, first_index}
 use Rattle.ec_table.proofs.Ranges.{ReadMailbox, ReadEntry, ReadPdo, ReadPdos, last_index, type_read}
-use Rattle.ec_table.proofs.ValueTests.{Meets, meets_ok, meets_then, any_met, must_met, number_met, name_met, rows_met}
+use Rattle.ec_table.proofs.ValueTests.{Meets, meets_ok, meets_then, any_met, must_met, ok_or_met, number_met, name_met, rows_met}
 
 -- ---- keys
 
@@ -202,8 +208,23 @@ pub truth_met : (p : Position) (left_out : Bool) (v : Option Data) → Meets (tr
 truth_met p left_out None = meets_ok (λ b. None ≡ None → b ≡ left_out) left_out (λ e. refl)
 truth_met p left_out (Some d) = record { all = λ b is e. cc }
 
+pub record ReadManner (fixed slow emergency : Option Data) (m : Manner) : Type 0 where
+  pub few : m.slow ≤ 100
+  pub fixed_usual : fixed ≡ None → m.is_fixed ≡ false
+  pub slow_usual : slow ≡ None → m.slow ≡ 0
+  pub emergency_usual : emergency ≡ None → m.has_emergency ≡ false
+
+pub manner_met : (p : Position) (fixed slow emergency : Option Data) → Meets (manner_in p fixed slow emergency) (ReadManner fixed slow emergency)
+unfolding manner_in
+manner_met p fixed slow emergency =
+    let P : Manner → Type 0 = ReadManner fixed slow emergency in
+    meets_then _ P _ _ (truth_met p false fixed) (λ a ha.
+    meets_then _ P _ _ (number_or_0_met p 100 slow) (λ b hb.
+    meets_then _ P _ _ (truth_met p false emergency) (λ e he.
+    meets_ok P (record { is_fixed = a; slow = b; has_emergency = e }) (record { few = hb.0; fixed_usual = ha; slow_usual = hb.1; emergency_usual = he }))))
+
 -- before the last test of a type
-pub record ReadHardware (process : ProcessData) (out_manager in_manager firmware fmmus revision : Option Data) (h : Hardware) : Type 0 where
+pub record ReadHardware (process : ProcessData) (out_manager in_manager firmware fixed slow emergency fmmus revision : Option Data) (h : Hardware) : Type 0 where
   pub outputs : ReadManager h.out_manager
   pub inputs : ReadManager h.in_manager
   pub some_fmmus : 2 ≤ h.fmmus
@@ -214,11 +235,17 @@ pub record ReadHardware (process : ProcessData) (out_manager in_manager firmware
   pub in_usual : in_manager ≡ None → h.in_manager ≡ usual_inputs
   pub firmware_usual : firmware ≡ None → h.has_firmware ≡ true
   pub fmmus_usual : fmmus ≡ None → h.fmmus ≡ 4
+  pub few : h.slow ≤ 100
+  pub fixed_usual : fixed ≡ None → h.is_fixed ≡ false
+  pub slow_usual : slow ≡ None → h.slow ≡ 0
+  pub emergency_usual : emergency ≡ None → h.has_emergency ≡ false
 
-pub described_met : (p : Position) (process : ProcessData) (out_manager in_manager firmware fmmus revision : Option Data) → Meets (described p process out_manager in_manager firmware fmmus revision) (ReadHardware process out_manager in_manager firmware fmmus revision)
+pub described_met : (p : Position) (process : ProcessData) (out_manager in_manager firmware fixed slow emergency fmmus revision : Option Data)
+    → Meets (manner_in p fixed slow emergency >>= (λ m. described p process m out_manager in_manager firmware fmmus revision)) (ReadHardware process out_manager in_manager firmware fixed slow emergency fmmus revision)
 unfolding described
-described_met p process out_manager in_manager firmware fmmus revision =
-    let P : Hardware → Type 0 = ReadHardware process out_manager in_manager firmware fmmus revision in
+described_met p process out_manager in_manager firmware fixed slow emergency fmmus revision =
+    let P : Hardware → Type 0 = ReadHardware process out_manager in_manager firmware fixed slow emergency fmmus revision in
+    meets_then _ P _ _ (manner_met p fixed slow emergency) (λ m hm.
     meets_then _ P _ _ (manager_met p usual_outputs out_manager (record { number = omega arith; control = omega arith })) (λ a ha.
     meets_then _ P _ _ (manager_met p usual_inputs in_manager (record { number = omega arith; control = omega arith })) (λ b hb.
     meets_then _ P _ _ (truth_met p true firmware) (λ w hw.
@@ -234,7 +261,11 @@ described_met p process out_manager in_manager firmware fmmus revision =
       in_usual = hb.1;
       firmware_usual = hw;
       fmmus_usual = hn.1;
-    })))))
+      few = hm.few;
+      fixed_usual = hm.fixed_usual;
+      slow_usual = hm.slow_usual;
+      emergency_usual = hm.emergency_usual;
+    }))))))
 
 -- there is a part if the table is for hardware, and it is as it was read
 pub record ReadPart (hardware : Bool) (P : Hardware → Type 0) (o : Option Hardware) : Type 0 where
@@ -257,10 +288,16 @@ beside (Some m) h test = λ b is.
     let ins = and_parts (nat_le 2 h.in_manager.number) h.has_firmware outs.1 in
     record { outputs = two_of _ outs.0; inputs = two_of _ ins.0; firmware = ins.1 }
 
-is_hardware : (mailbox : Option Mailbox) (h : Hardware) → ReadManager h.out_manager → ReadManager h.in_manager → 2 ≤ h.fmmus → h.fmmus ≤ 4 → can_be mailbox h ≡ true → IsHardware mailbox h
-is_hardware mailbox h outputs inputs some few test =
+by_mailbox : (fixed : Bool) (mailbox : Option Mailbox) → (not fixed || is_some mailbox) ≡ true → fixed ≡ true → is_some mailbox ≡ true
+by_mailbox false mailbox test is = absurd (let z : false ≡ true = is in cc)
+by_mailbox true mailbox test is = test
+
+is_hardware : (mailbox : Option Mailbox) (h : Hardware) → ReadManager h.out_manager → ReadManager h.in_manager → 2 ≤ h.fmmus → h.fmmus ≤ 4 → h.slow ≤ 100 → can_be mailbox h ≡ true → IsHardware mailbox h
+is_hardware mailbox h outputs inputs some few slow test =
     let modes : Bool = (h.out_manager.control % 16 == 4) && (h.in_manager.control % 16 == 0) in
-    let whole = and_parts (not (h.out_manager.number == h.in_manager.number) && modes) _ test in
+    let room : Bool = is_none mailbox || (nat_le 2 h.out_manager.number && (nat_le 2 h.in_manager.number && h.has_firmware)) in
+    let outer = and_parts ((not (h.out_manager.number == h.in_manager.number) && modes) && room) (not h.is_fixed || is_some mailbox) test in
+    let whole = and_parts (not (h.out_manager.number == h.in_manager.number) && modes) room outer.0 in
     let tests = and_parts (not (h.out_manager.number == h.in_manager.number)) modes whole.0 in
     let both = and_parts (h.out_manager.control % 16 == 4) (h.in_manager.control % 16 == 0) tests.1 in
     let differ : (h.out_manager.number == h.in_manager.number) ≡ false = not_true _ tests.0 in
@@ -273,11 +310,13 @@ is_hardware mailbox h outputs inputs some few test =
       out_byte = outputs.control;
       in_byte = inputs.control;
       mailbox = beside mailbox h whole.1;
+      fixed = by_mailbox h.is_fixed mailbox outer.1;
+      slow = slow;
       some_fmmus = some;
       few_fmmus = few;
     }
 
-some_test : (mailbox : Option Mailbox) (o : Option Hardware) (h : Hardware) → is_possible mailbox o ≡ true → o ≡ Some h → can_be mailbox h ≡ true
+some_test : (mailbox : Option Mailbox) (o : Option Hardware) (h : Hardware) → can_be_if mailbox o ≡ true → o ≡ Some h → can_be mailbox h ≡ true
 some_test mailbox None h test is = cc
 some_test mailbox (Some x) h test is = let e : x ≡ h = cc in rw e at test
 
@@ -285,39 +324,95 @@ revision_none : (revision : Option Data) → is_none revision ≡ true → revis
 revision_none None h = refl
 revision_none (Some d) h = cc
 
+-- ---- downloads
+
+positive_fits : (w k n : ℕ) (b : Bool) → nat_lt k w ≡ b → (if b then Some k else None) ≡ Some n → n < w
+positive_fits w k n true lt h = let below : k < w = grind (arith, nat_tests, lt) in let e : k ≡ n = cc in omega (arith, below, e)
+positive_fits w k n false lt h = absurd (let z : None ≡ Some n = h in cc)
+
+negative_fits : (w k n : ℕ) (b : Bool) → 0 < w → (if b then Some (w - (k + 1)) else None) ≡ Some n → n < w
+negative_fits w k n true some h = let e : w - (k + 1) ≡ n = cc in omega (arith, some, e)
+negative_fits w k n false some h = absurd (let z : None ≡ Some n = h in cc)
+
+held_fits : (bits : ℕ) (z : ℤ) (n : ℕ) → 0 < 2 ^ bits → held bits z ≡ Some n → n < 2 ^ bits
+held_fits bits (pos k) n some h = positive_fits (2 ^ bits) k n (nat_lt k (2 ^ bits)) refl h
+held_fits bits (negsuc k) n some h = negative_fits (2 ^ bits) k n (nat_lt k (2 ^ (bits - 1))) some h
+
+any_held : (bits : ℕ) (o : Option ℤ) (n : ℕ) → 0 < 2 ^ bits → option_and_then (held bits) o ≡ Some n → n < 2 ^ bits
+any_held bits None n some h = absurd (let z : None ≡ Some n = h in cc)
+any_held bits (Some z) n some h = held_fits bits z n some h
+
+some_values : (size : ParameterSize) → 0 < 2 ^ bit_count size
+some_values sizes.One = lit< tt
+some_values sizes.Two = lit< tt
+some_values sizes.Four = lit< tt
+
+value_met : (p : Position) (size : ParameterSize) (v : Option Data) → Meets (value_in p size v) (λ n. n < 2 ^ bit_count size)
+unfolding value_in
+value_met p size v = record { all = λ n is. any_held (bit_count size) (option_and_then as_integer v) n (some_values size) ((ok_or_met (option_and_then (held (bit_count size)) (option_and_then as_integer v)) (BadValue p)).all n is) }
+
+parameter_met : (p : Position) (d : Data) → Meets (parameter_of p d) IsDownload
+unfolding parameter_of
+parameter_met p d =
+    meets_then _ IsDownload _ _ (number_met p 0 65535 (at 0 d)) (λ a ha.
+    meets_then _ IsDownload _ _ (number_met p 0 255 (at 1 d)) (λ b hb.
+    meets_then _ IsDownload _ _ (any_met (size_in p (at 2 d))) (λ size _.
+    meets_then _ IsDownload _ _ (value_met p size (at 3 d)) (λ n hn.
+    meets_then _ IsDownload _ _ (any_met _) (λ u _.
+    meets_ok IsDownload (record { index = a; subindex = b; size = size; value = n }) (record { index = ha.1; subindex = hb.1; value = hn }))))))
+
+pub parameters_met : (p : Position) (v : Option Data) → Meets (parameters_in p v) (λ qs. (All IsDownload qs × (length qs ≤ 64)) × (v ≡ None → qs ≡ []))
+parameters_met p None = meets_ok (λ qs. (All IsDownload qs × (length qs ≤ 64)) × (None ≡ None → qs ≡ [])) [] ((All-nil IsDownload, omega arith), λ e. refl)
+parameters_met p (Some d) = record { all = λ qs is. ((array_met IsDownload (parameter_row p) p 64 (λ n e found. parameter_met p e) (Some d)).all qs is, λ e. cc) }
+
+pub taken : (mailbox : Option Mailbox) (qs : List Parameter) → are_taken mailbox qs ≡ true → mailbox ≡ None → qs ≡ []
+taken None [] test none = refl
+taken None (q ∷ qs) test none = absurd (let z : length (q ∷ qs) ≡ 0 = (Decides-eqb (length (q ∷ qs)) 0).0 test in omega (arith, z))
+taken (Some m) qs test none = absurd (let z : Some m ≡ None = none in cc)
+
+-- a table that isn't for hardware has no key `init`
+init_in : (version : Version) (hardware : Bool) (ms : Members) → let f : Format = record { version = version; hardware = hardware } in keys_are shape.Type f ms ≡ true → hardware ≡ false → get_member (codes "init") ms ≡ None
+init_in version false ms keys e =
+    let f : Format = record { version = version; hardware = false } in
+    no_such_key (is_key shape.Type f) (codes "init") ms refl (and_parts (each_key (is_key shape.Type f) ms) (has_required shape.Type f ms) keys).0
+init_in version true ms keys e = absurd (let z : true ≡ false = e in cc)
+
 -- a type that was read, after those found
 pub record NewType (found : List TypeRow) (t : TypeRow) : Type 0 where
   pub sound : IsType t
   pub fresh : (k : ℕ) (d : TypeRow) → k < length found → (get_or found k d).name ≢ t.name
 
-pub type_met : (v : Format) (p : Position) (ms : Members) (found : List TypeRow) → Meets (type_at v p ms found) (λ t. NewType found t × (is_some t.hardware ≡ v.hardware))
+pub type_met : (v : Format) (p : Position) (ms : Members) (found : List TypeRow) → Meets (type_at v p ms found) (λ t. NewType found t × ((is_some t.hardware ≡ v.hardware) × (v.hardware ≡ false → t.init ≡ [])))
 unfolding type_at type_named
 type_met v p ms found =
-    let P : TypeRow → Type 0 = λ t. NewType found t × (is_some t.hardware ≡ v.hardware) in
-    meets_then _ P _ _ (any_met (must (keys_are shape.Type v ms) (BadKey p))) (λ u _.
+    let P : TypeRow → Type 0 = λ t. NewType found t × ((is_some t.hardware ≡ v.hardware) × (v.hardware ≡ false → t.init ≡ [])) in
+    meets_then _ P _ _ (must_met (keys_are shape.Type v ms) (BadKey p)) (λ u keys.
     meets_then _ P _ _ (name_met p (get_member (codes "name") ms)) (λ name hname.
     meets_then _ P _ _ (device_met p _ _ _) (λ device hdevice.
     meets_then _ P _ _ (mailbox_met p (get_member (codes "mailbox") ms)) (λ mailbox hmailbox.
     meets_then _ P _ _ (process_met p _ _ _ _) (λ process hprocess.
     meets_then _ P _ _ (any_met (truth_in p true (get_member (codes "lrw") ms))) (λ lrw _.
-    meets_then _ P _ _ (described_if_met v.hardware _ _ (described_met p process (get_member (codes "out_manager") ms) (get_member (codes "in_manager") ms) (get_member (codes "firmware") ms) (get_member (codes "fmmus") ms) (get_member (codes "revision") ms))) (λ hardware hhardware.
+    meets_then _ P _ _ (described_if_met v.hardware _ _ (described_met p process (get_member (codes "out_manager") ms) (get_member (codes "in_manager") ms) (get_member (codes "firmware") ms) (get_member (codes "fixed") ms) (get_member (codes "slow") ms) (get_member (codes "emergency") ms) (get_member (codes "fmmus") ms) (get_member (codes "revision") ms))) (λ hardware hhardware.
+    meets_then _ P _ _ (parameters_met p (get_member (codes "init") ms)) (λ init hinit.
     meets_then _ P _ _ (must_met (not (is_named (λ (t : TypeRow). t.name) name found || process_twice process)) (TwiceNamed p)) (λ w hw.
-    meets_then _ P _ _ (must_met (is_possible mailbox hardware) (BadValue p)) (λ x possible.
+    meets_then _ P _ _ (must_met (is_possible mailbox hardware init) (BadValue p)) (λ x possible.
     let parts : (is_named (λ (t : TypeRow). t.name) name found ≡ false) × (process_twice process ≡ false) = or_parts (is_named (λ (t : TypeRow). t.name) name found) (process_twice process) (not_true _ hw) in
-    let row : TypeRow = record { name = name; device = device; mailbox = mailbox; process = process; lrw = lrw; hardware = hardware } in
+    let row : TypeRow = record { name = name; device = device; mailbox = mailbox; process = process; lrw = lrw; hardware = hardware; init = init } in
+    let last = and_parts (can_be_if mailbox hardware) (are_taken mailbox init) possible in
+    let downloads : AreDownloads mailbox init = record { few = hinit.0.1; each = hinit.0.0; mailbox = taken mailbox init last.1 } in
     let told : (h : Hardware) → hardware ≡ Some h → IsDescribed row h
     = λ h is. let read = hhardware.each h is in record {
-      limits = is_hardware mailbox h read.outputs read.inputs read.some_fmmus read.few_fmmus (some_test mailbox hardware h possible is);
+      limits = is_hardware mailbox h read.outputs read.inputs read.some_fmmus read.few_fmmus read.few (some_test mailbox hardware h last.0 is);
       pins = read.pins;
       revision = λ any. hdevice.1 (revision_none (get_member (codes "revision") ms) (sym read.any ∙ any));
     } in
     meets_ok P row (
       record {
-        sound = type_read row hname hdevice.0 hmailbox hprocess.out_start hprocess.in_start (pdos_of_process process hprocess parts.1 row refl) told;
+        sound = type_read row hname hdevice.0 hmailbox hprocess.out_start hprocess.in_start (pdos_of_process process hprocess parts.1 row refl) told downloads;
         fresh = fresh (λ (t : TypeRow). t.name) name found parts.0;
       },
-      hhardware.there,
-    ))))))))))
+      (hhardware.there, λ none. hinit.1 (init_in v.version v.hardware ms keys none)),
+    )))))))))))
 
 pub type_added : (found : List TypeRow) (t : TypeRow) → AreTypes found → NewType found t → AreTypes (found ++ t ∷ [])
 type_added found t h n = record { each = All-push IsType found t h.each n.sound; once = all_pairs_push (λ (t u : TypeRow). t.name ≢ u.name) found t h.once n.fresh }
@@ -325,9 +420,9 @@ type_added found t h n = record { each = All-push IsType found t h.each n.sound;
 pub types_met : (v : Format) (ds : Items) → Meets (rows_after (type_element v) [] 0 ds) AreTypes
 types_met v ds = rows_met AreTypes NewType (type_element v) (λ n d found. members_met (NewType found) _ d _ (λ ms. record { all = λ t is. ((type_met v _ ms found).all t is).0 })) type_added [] 0 ds (record { each = All-nil IsType; once = λ i j d p q. absurd (omega arith) })
 
-pub types_of_format : (v : Format) (ds : Items) → Meets (rows_after (type_element v) [] 0 ds) (All (λ (t : TypeRow). is_some t.hardware ≡ v.hardware))
+pub types_of_format : (v : Format) (ds : Items) → Meets (rows_after (type_element v) [] 0 ds) (All (λ (t : TypeRow). (is_some t.hardware ≡ v.hardware) × (v.hardware ≡ false → t.init ≡ [])))
 types_of_format v ds =
-    let P : TypeRow → Type 0 = λ t. is_some t.hardware ≡ v.hardware in
+    let P : TypeRow → Type 0 = λ t. (is_some t.hardware ≡ v.hardware) × (v.hardware ≡ false → t.init ≡ []) in
     rows_met (All P) (λ found t. P t) (type_element v) (λ n d found. members_met P _ d _ (λ ms. record { all = λ t is. ((type_met v _ ms found).all t is).1 })) (λ found t h n. All-push P found t h n) [] 0 ds (All-nil P)
 
 -- ---- variables

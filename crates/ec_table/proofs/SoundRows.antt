@@ -11,7 +11,6 @@ use Rattle.std.proofs.lemmas.List.Quantifiers.{all_pairs_push, position-Some}
 use Rattle.std.proofs.lemmas.Option.{slice_get_within, get_or_from_slice_get}
 use Rattle.toml.specs.Parse.{parse_document}
 use Rattle.toml.specs.Data.{Data, Members, Items, at, get_member}
-use Rattle.ec_device.specs.declared.slave_type.Mailbox.{Mailbox}
 use Rattle.ec_table.specs.declared.fault.Fault.TheVariants.{Toml, BadKey, BadValue, TwiceNamed, UnknownName}
 use Rattle.ec_table.specs.declared.fault.Position.{Position}
 use Rattle.ec_table.specs.declared.rows.Format.{Format}
@@ -29,25 +28,43 @@ use Rattle.ec_table.specs.Contents.{pdos_toward, assigned_toward}
 use Rattle.ec_table.specs.Fields.{must, each_key, is_key, has_required, keys_are, link_bits_of, link_bits_in, section_in}
 use Rattle.ec_table.specs.InOrder.{rows_after}
 use Rattle.ec_table.specs.Pdos.{indices_of, has_twice, numbers_in}
-use Rattle.ec_table.specs.Reading.{all_in, same_list, assigned_in, slave_at, slave_named, slave_of_type, slave_element, all_bits, link_at, link_element, type_element, variable_element, top, stated_format, table_of_document, table_of_sections, table_of}
+use Rattle.ec_device.specs.Hardware.{is_assignable}
+use Rattle.ec_table.specs.Parameters.{are_taken}
+use Rattle.ec_table.specs.Reading.{all_in, same_list, suits, assigned_in, slave_at, slave_named, slave_of_type, slave_element, all_bits, link_at, link_element, type_element, variable_element, top, stated_format, table_of_document, table_of_sections, table_of}
 use Rattle.ec_table.specs.Names.{is_named, index_named}
-use Rattle.ec_table.specs.Sound.{IsOnce, IsType, AreTypes, IsAssignment, IsSlave, AreSlaves, IsVariable, AreVariables, IsBits, IsLink, IsSound, IsName}
+use Rattle.ec_table.specs.Sound.{IsOnce, IsType, AreTypes, IsAssignment, AreDownloads, IsSlave, AreSlaves, IsVariable, AreVariables, IsBits, IsLink, IsSound, IsName}
 use Rattle.ec_table.proofs.Ranges.{pdos_toward_read}
 use Rattle.ec_table.specs.Laws.{AcceptedIsSound}
 use Rattle.ec_table.proofs.ValueTests.{Meets, meets_ok, meets_then, any_met, must_met, ok_or_met, number_met, name_met, rows_met}
-use Rattle.ec_table.proofs.SoundReads.{once_from_test, not_true, fresh, no_such_key, members_met, number_or_0_met, types_met, types_of_format, variables_met, variables_of_format}
+use Rattle.ec_table.proofs.SoundReads.{once_from_test, not_true, fresh, no_such_key, members_met, number_or_0_met, parameters_met, taken, types_met, types_of_format, variables_met, variables_of_format}
 
 -- ---- keys
 
 -- version 1 has no key `unit`
 unit_in : (v : Version) (hardware : Bool) (ms : Members) → let f : Format = record { version = v; hardware = hardware } in keys_are shape.Slave f ms ≡ true → v ≡ One → get_member (codes "unit") ms ≡ None
-unit_in One hardware ms keys e =
-    let f : Format = record { version = One; hardware = hardware } in
+unit_in One false ms keys e =
+    let f : Format = record { version = One; hardware = false } in
+    no_such_key (is_key shape.Slave f) (codes "unit") ms refl (and_parts (each_key (is_key shape.Slave f) ms) (has_required shape.Slave f ms) keys).0
+unit_in One true ms keys e =
+    let f : Format = record { version = One; hardware = true } in
     no_such_key (is_key shape.Slave f) (codes "unit") ms refl (and_parts (each_key (is_key shape.Slave f) ms) (has_required shape.Slave f ms) keys).0
 unit_in Two hardware ms keys e = cc
 
 pub no_unit : (f : Format) (ms : Members) → keys_are shape.Slave f ms ≡ true → f.version ≡ One → get_member (codes "unit") ms ≡ None
 no_unit f ms keys e = unit_in f.version f.hardware ms keys e
+
+-- a table that isn't for hardware has no key `init`
+init_in : (v : Version) (hardware : Bool) (ms : Members) → let f : Format = record { version = v; hardware = hardware } in keys_are shape.Slave f ms ≡ true → hardware ≡ false → get_member (codes "init") ms ≡ None
+init_in One false ms keys e =
+    let f : Format = record { version = One; hardware = false } in
+    no_such_key (is_key shape.Slave f) (codes "init") ms refl (and_parts (each_key (is_key shape.Slave f) ms) (has_required shape.Slave f ms) keys).0
+init_in Two false ms keys e =
+    let f : Format = record { version = Two; hardware = false } in
+    no_such_key (is_key shape.Slave f) (codes "init") ms refl (and_parts (each_key (is_key shape.Slave f) ms) (has_required shape.Slave f ms) keys).0
+init_in v true ms keys e = absurd (let z : true ≡ false = e in cc)
+
+no_init : (f : Format) (ms : Members) → keys_are shape.Slave f ms ≡ true → f.hardware ≡ false → get_member (codes "init") ms ≡ None
+no_init f ms keys e = init_in f.version f.hardware ms keys e
 
 -- ---- slaves
 
@@ -66,11 +83,12 @@ all_contained (x ∷ xs) ys h =
 pub record Fits (t : TypeRow) (s r : SlaveRow) : Type 0 where
   pub same : s ≡ r
   pub known : (d : Direction) → All (Contains (indices_of (pdos_toward d t))) (assigned_toward d s)
-  pub fixed : (d : Direction) → t.mailbox ≡ None → assigned_toward d s ≡ indices_of (pdos_toward d t)
+  pub fixed : (d : Direction) → is_assignable t.mailbox t.hardware ≡ false → assigned_toward d s ≡ indices_of (pdos_toward d t)
+  pub taken : t.mailbox ≡ None → s.init ≡ []
 
-either : (o : Option Mailbox) (b : Bool) → (is_some o || b) ≡ true → o ≡ None → b ≡ true
-either None b h e = h
-either (Some m) b h e = cc
+either : (a b : Bool) → (a || b) ≡ true → a ≡ false → b ≡ true
+either false b h e = h
+either true b h e = absurd (let z : true ≡ false = e in cc)
 
 pub assigned_met : (p : Position) (t : TypeRow) (s : SlaveRow) → Meets (assigned_in p t s) (Fits t s)
 unfolding assigned_in
@@ -80,7 +98,8 @@ assigned_met p t s =
     let same_outs : Bool = same_list s.outputs (indices_of t.process.outputs) in
     let same_ins : Bool = same_list s.inputs (indices_of t.process.inputs) in
     meets_then _ (Fits t s) _ _ (must_met (outs && ins) (UnknownName p)) (λ u hu.
-    meets_then _ (Fits t s) _ _ (must_met (is_some t.mailbox || (same_outs && same_ins)) (BadValue p)) (λ w hw.
+    meets_then _ (Fits t s) _ _ (must_met (suits t s) (BadValue p)) (λ w hw.
+    let last = and_parts (is_assignable t.mailbox t.hardware || (same_outs && same_ins)) (are_taken t.mailbox s.init) hw in
     meets_ok (Fits t s) s (record {
       same = refl;
       known = λ d. elim d as (λ d. All (Contains (indices_of (pdos_toward d t))) (assigned_toward d s)) [
@@ -88,9 +107,10 @@ assigned_met p t s =
         | In ↦ all_contained s.inputs (indices_of t.process.inputs) (and_parts outs ins hu).1
       ];
       fixed = λ d none. elim d as (λ d. assigned_toward d s ≡ indices_of (pdos_toward d t)) [
-        | Out ↦ (bytes_eq-Decides s.outputs (indices_of t.process.outputs)).0 (and_parts same_outs same_ins (either t.mailbox (same_outs && same_ins) hw none)).0
-        | In ↦ (bytes_eq-Decides s.inputs (indices_of t.process.inputs)).0 (and_parts same_outs same_ins (either t.mailbox (same_outs && same_ins) hw none)).1
+        | Out ↦ (bytes_eq-Decides s.outputs (indices_of t.process.outputs)).0 (and_parts same_outs same_ins (either (is_assignable t.mailbox t.hardware) (same_outs && same_ins) last.0 none)).0
+        | In ↦ (bytes_eq-Decides s.inputs (indices_of t.process.inputs)).0 (and_parts same_outs same_ins (either (is_assignable t.mailbox t.hardware) (same_outs && same_ins) last.0 none)).1
       ];
+      taken = taken t.mailbox s.init last.1;
     })))
 
 -- written without a double, or all of the type's
@@ -101,20 +121,22 @@ once_or_all (Some xs) all h a = once_from_test xs h
 pub record NewSlave (v : Format) (ts : List TypeRow) (found : List SlaveRow) (s : SlaveRow) : Type 0 where
   pub sound : IsSlave v.version ts s
   pub fresh : (k : ℕ) (d : SlaveRow) → k < length found → (get_or found k d).name ≢ s.name
+  pub plain : v.hardware ≡ false → s.init ≡ []
 
 pub type_at_place : (ts : List TypeRow) (k : ℕ) (t : TypeRow) → AreTypes ts → slice_get ts k ≡ Some t → IsType t
 type_at_place ts k t h is = subst IsType (get_or_from_slice_get ts k t t is) (All-get_or IsType ts k t (slice_get_within ts k t is) h.each)
 
 -- the row that the tests of a slave end with
-pub slave_sound : (v : Format) (ts : List TypeRow) (k : ℕ) (t : TypeRow) (s : SlaveRow) → AreTypes ts → slice_get ts k ≡ Some t → s.type_index ≡ k → Fits t s s → ((d : Direction) → IsOnce (assigned_toward d s)) → IsName s.name → s.serial ≤ 4294967295 → s.unit ≤ 63 → (v.version ≡ One → s.unit ≡ 0) → IsSlave v.version ts s
-slave_sound v ts k t s types is place fits once name serial unit one = record {
+pub slave_sound : (v : Format) (ts : List TypeRow) (k : ℕ) (t : TypeRow) (s : SlaveRow) → AreTypes ts → slice_get ts k ≡ Some t → s.type_index ≡ k → Fits t s s → ((d : Direction) → IsOnce (assigned_toward d s)) → IsName s.name → s.serial ≤ 4294967295 → s.unit ≤ 63 → (v.version ≡ One → s.unit ≡ 0) → AreDownloads t.mailbox s.init → IsSlave v.version ts s
+slave_sound v ts k t s types is place fits once name serial unit one init = record {
   name = name;
   known = rw place (slice_get_within ts k t is);
   assigned = λ r d other. let here : slice_get ts k ≡ Some r = rw place at other in let e : t ≡ r = cc in
-      subst (λ (r : TypeRow). IsAssignment r.mailbox (pdos_toward d r) (assigned_toward d s)) e (record { known = fits.known d; once = once d; fixed = fits.fixed d });
+      subst (λ (r : TypeRow). IsAssignment (is_assignable r.mailbox r.hardware) (pdos_toward d r) (assigned_toward d s)) e (record { known = fits.known d; once = once d; fixed = fits.fixed d });
   serial = serial;
   unit = unit;
   one_unit = one;
+  init = λ r other. let here : slice_get ts k ≡ Some r = rw place at other in let e : t ≡ r = cc in subst (λ (r : TypeRow). AreDownloads r.mailbox s.init) e init;
 }
 
 pub slave_met : (v : Format) (ts : List TypeRow) (p : Position) (ms : Members) (found : List SlaveRow) → AreTypes ts → Meets (slave_at v ts p ms found) (NewSlave v ts found)
@@ -127,10 +149,11 @@ slave_met v ts p ms found types =
     meets_then _ (NewSlave v ts found) _ _ (any_met (numbers_in p 0x1A00 0x1BFF (get_member (codes "in") ms))) (λ inputs _.
     meets_then _ (NewSlave v ts found) _ _ (number_or_0_met p 4294967295 (get_member (codes "serial") ms)) (λ serial hserial.
     meets_then _ (NewSlave v ts found) _ _ (number_or_0_met p 63 (get_member (codes "unit") ms)) (λ unit hunit.
+    meets_then _ (NewSlave v ts found) _ _ (parameters_met p (get_member (codes "init") ms)) (λ init hinit.
     meets_then _ (NewSlave v ts found) _ _ (must_met (not (is_named (λ (s : SlaveRow). s.name) name found || (has_twice (unwrap_or outputs []) || has_twice (unwrap_or inputs [])))) (TwiceNamed p)) (λ w hw.
     meets_then _ (NewSlave v ts found) _ _ (any_met (ok_or (index_named (λ (t : TypeRow). t.name) type_name ts) (UnknownName p))) (λ place _.
     meets_then _ (NewSlave v ts found) _ _ (ok_or_met (slice_get ts place) (UnknownName p)) (λ t is.
-    let row : SlaveRow = record { name = name; type_index = place; outputs = unwrap_or outputs (indices_of t.process.outputs); inputs = unwrap_or inputs (indices_of t.process.inputs); serial = serial; unit = unit } in
+    let row : SlaveRow = record { name = name; type_index = place; outputs = unwrap_or outputs (indices_of t.process.outputs); inputs = unwrap_or inputs (indices_of t.process.inputs); serial = serial; unit = unit; init = init } in
     let twice : (is_named (λ (s : SlaveRow). s.name) name found ≡ false) × ((has_twice (unwrap_or outputs []) || has_twice (unwrap_or inputs [])) ≡ false) = or_parts (is_named (λ (s : SlaveRow). s.name) name found) (has_twice (unwrap_or outputs []) || has_twice (unwrap_or inputs [])) (not_true _ hw) in
     let lists : (has_twice (unwrap_or outputs []) ≡ false) × (has_twice (unwrap_or inputs []) ≡ false) = or_parts (has_twice (unwrap_or outputs [])) (has_twice (unwrap_or inputs [])) twice.1 in
     let kind : IsType t = type_at_place ts place t types is in
@@ -138,21 +161,28 @@ slave_met v ts p ms found types =
       all = λ s done.
           let fits : Fits t row s = (assigned_met p t row).all s done in
           subst (NewSlave v ts found) fits.same (record {
-            sound = slave_sound v ts place t row types is refl (record { same = refl; known = fits.known; fixed = fits.fixed })
+            sound = slave_sound v ts place t row types is refl (record { same = refl; known = fits.known; fixed = fits.fixed; taken = fits.taken })
                 (λ d. elim d as (λ d. IsOnce (assigned_toward d row)) [
                   | Out ↦ once_or_all outputs (indices_of t.process.outputs) lists.0 (pdos_toward_read t kind Out).once
                   | In ↦ once_or_all inputs (indices_of t.process.inputs) lists.1 (pdos_toward_read t kind In).once
                 ])
-                hname hserial.0 hunit.0 (λ one. hunit.1 (no_unit v ms keys one));
+                hname hserial.0 hunit.0 (λ one. hunit.1 (no_unit v ms keys one))
+                (record { few = hinit.0.1; each = hinit.0.0; mailbox = fits.taken });
             fresh = fresh (λ (s : SlaveRow). s.name) name found twice.0;
+            plain = λ none. hinit.1 (no_init v ms keys none);
           });
-    }))))))))))
+    })))))))))))
 
 pub slave_added : (v : Format) (ts : List TypeRow) (found : List SlaveRow) (s : SlaveRow) → AreSlaves v.version ts found → NewSlave v ts found s → AreSlaves v.version ts (found ++ s ∷ [])
 slave_added v ts found s h n = record { each = All-push (IsSlave v.version ts) found s h.each n.sound; once = all_pairs_push (λ (s r : SlaveRow). s.name ≢ r.name) found s h.once n.fresh }
 
 pub slaves_met : (v : Format) (ts : List TypeRow) (ds : Items) → AreTypes ts → Meets (rows_after (slave_element v ts) [] 0 ds) (AreSlaves v.version ts)
 slaves_met v ts ds types = rows_met (AreSlaves v.version ts) (NewSlave v ts) (slave_element v ts) (λ n d found. members_met (NewSlave v ts found) _ d _ (λ ms. slave_met v ts _ ms found types)) (slave_added v ts) [] 0 ds (record { each = All-nil (IsSlave v.version ts); once = λ i j d p q. absurd (omega arith) })
+
+pub slaves_of_format : (v : Format) (ts : List TypeRow) (ds : Items) → AreTypes ts → Meets (rows_after (slave_element v ts) [] 0 ds) (All (λ (s : SlaveRow). v.hardware ≡ false → s.init ≡ []))
+slaves_of_format v ts ds types =
+    let P : SlaveRow → Type 0 = λ s. v.hardware ≡ false → s.init ≡ [] in
+    rows_met (All P) (λ found s. P s) (slave_element v ts) (λ n d found. members_met P _ d _ (λ ms. record { all = λ s is. ((slave_met v ts _ ms found types).all s is).plain })) (λ found s h n. All-push P found s h n) [] 0 ds (All-nil P)
 
 -- ---- links
 
@@ -217,7 +247,12 @@ read_sound v type_items slave_items variable_items link_items ts ss ws ls it is 
       slaves = (slaves_met v ts slave_items types).all ss is;
       variables = variables;
       links = (links_met v ss ws link_items variables).all ls il;
-      format = record { types = (types_of_format v type_items).all ts it; variables = λ none k w lt. (variables_of_format v variable_items).all ws iw k w lt none };
+      format = record {
+        types = λ k t lt. ((types_of_format v type_items).all ts it k t lt).0;
+        type_init = λ none k t lt. ((types_of_format v type_items).all ts it k t lt).1 none;
+        slave_init = λ none k s lt. (slaves_of_format v ts slave_items types).all ss is k s lt none;
+        variables = λ none k w lt. (variables_of_format v variable_items).all ws iw k w lt none;
+      };
     }
 
 pub document_met : (ms : Members) → Meets (table_of_document ms) IsSound

@@ -1,5 +1,5 @@
 -- A sound table, written out, is read: values, entries, objects, variables.
-use Rattle.std.proofs.Common.{◌≡◌, ◌≢◌, ℕ, ◌+◌, ◌<◌, ◌≤◌, Bool, true, false, not, ◌||◌, ◌==◌, nat_le, List, [], ◌∷◌, ◌++◌, length, get_or, map, Result, Ok, Some, All, AllPairs, refl, sym, ◌∙◌, ap, subst, arith, append_assoc, length-append}
+use Rattle.std.proofs.Common.{◌≡◌, ◌≢◌, ℕ, ◌+◌, ◌<◌, ◌≤◌, Bool, true, false, not, ◌||◌, ◌==◌, nat_le, nat_lt, ◌^◌, List, [], ◌∷◌, ◌++◌, length, get_or, map, Result, Ok, Some, All, AllPairs, refl, sym, ◌∙◌, ap, subst, arith, append_assoc, length-append}
 use Rattle.std.specs.List.{list_any}
 use Rattle.std.specs.Str.{bytes_eq}
 use Rattle.std.proofs.lemmas.Bool.Decides.{nat_tests}
@@ -14,6 +14,10 @@ use Rattle.ec_device.specs.declared.slave_type.Entry.{Entry}
 use Rattle.ec_device.specs.declared.slave_type.Pdo.{Pdo}
 use Rattle.ec_device.specs.declared.slave_type.Mailbox.{Mailbox}
 use Rattle.ec_device.specs.declared.hardware.ProcessManager.{ProcessManager}
+use Rattle.ec_device.specs.declared.parameter.Parameter.{Parameter}
+use Rattle.ec_device.specs.declared.parameter.ParameterSize.{ParameterSize}
+use Rattle.ec_device.specs.declared.parameter.ParameterSize.TheVariants as sizes
+use Rattle.ec_device.specs.Parameters.{bit_count}
 use Rattle.ec_table.specs.declared.fault.Fault.{Fault}
 use Rattle.ec_table.specs.declared.fault.Position.{Position}
 use Rattle.ec_table.specs.declared.rows.Format.{Format}
@@ -25,12 +29,13 @@ use Rattle.ec_table.specs.declared.rows.LinkBits.{LinkBits}
 use Rattle.ec_table.specs.Fields.{number_in, name_in, mailbox_of, mailbox_in, manager_of, manager_in, direction_in, link_bits_of, link_bits_in}
 use Rattle.ec_table.specs.InOrder.{rows_after}
 use Rattle.ec_table.specs.Pdos.{entry_of, entry_row, array_of, array_in, pdo_of, pdo_row, pdos_in, number_row, number_list, numbers_in}
+use Rattle.ec_table.specs.Parameters.{size_in, value_in, parameter_of, parameter_row, parameters_in}
 use Rattle.ec_table.specs.Reading.{variable_at}
 use Rattle.ec_table.specs.Names.{is_named}
-use Rattle.ec_table.specs.Sound.{IsName, IsVariable, IsBits, first_index}
+use Rattle.ec_table.specs.Sound.{IsName, IsDownload, IsVariable, IsBits, first_index}
 use Rattle.ec_table.proofs.Ranges.{ReadMailbox, ReadEntry, ReadPdo, ReadPdos, last_index}
 use Rattle.ec_table.proofs.SoundReads.{false_from, ReadManager}
-use Rattle.ec_table.specs.Writing.{number, array_of_all, entry_data, pdo_data, mailbox_data, manager_data, direction_text, variable_members, bits_data}
+use Rattle.ec_table.specs.Writing.{number, array_of_all, parameter_data, entry_data, pdo_data, mailbox_data, manager_data, direction_text, variable_members, bits_data}
 
 -- ---- values
 
@@ -106,6 +111,28 @@ unfolding number_list
 numbers_read p low high xs h =
     let rows : rows_after (number_row p low high) [] 0 (items_of (map number xs)) ≡ Ok xs = rows_written (number_row p low high) number [] xs (λ before x after e. let fits : (low ≤ x) × (x ≤ high) = middle (λ n. (low ≤ n) × (n ≤ high)) before x after xs e h in number_reads p low high x fits.0 fits.1) in
     rw rows refl
+
+-- ---- downloads
+
+size_reads : (p : Position) (size : ParameterSize) → size_in p (Some (number (bit_count size))) ≡ Ok size
+unfolding size_in number_in
+size_reads p sizes.One = refl
+size_reads p sizes.Two = refl
+size_reads p sizes.Four = refl
+
+test_from_lt : (n m : ℕ) → n < m → nat_lt n m ≡ true
+test_from_lt n m h = grind (arith, nat_tests)
+
+value_reads : (p : Position) (size : ParameterSize) (n : ℕ) → n < 2 ^ bit_count size → value_in p size (Some (number n)) ≡ Ok n
+unfolding value_in
+value_reads p size n h = rw (test_from_lt n (2 ^ bit_count size) h) refl
+
+parameter_reads : (p : Position) (q : Parameter) → IsDownload q → parameter_of p (parameter_data q) ≡ Ok q
+unfolding parameter_of
+parameter_reads p q h = rw (number_reads p 0 65535 q.index (omega arith) h.index, number_reads p 0 255 q.subindex (omega arith) h.subindex, size_reads p q.size, value_reads p q.size q.value h.value) refl
+
+pub parameters_read : (p : Position) (qs : List Parameter) → All IsDownload qs → length qs ≤ 64 → parameters_in p (Some (array_of_all parameter_data qs)) ≡ Ok qs
+parameters_read p qs all few = array_reads (parameter_row p) parameter_data IsDownload p 64 qs (λ n q found hq. parameter_reads p q hq) all few
 
 -- ---- names
 

@@ -1,5 +1,5 @@
 -- A sound table, written out, is read: slaves, links, the document.
-use Rattle.std.proofs.Common.{◌≡◌, ◌≢◌, ℕ, ◌+◌, ◌<◌, ◌≤◌, Bool, true, false, ◌&&◌, ◌||◌, ◌==◌, nat_lt, List, [], ◌∷◌, length, get_or, map, Ok, Option, Some, None, is_some, position, All, AllPairs, Contains, slice_get, refl, sym, ◌∙◌, ap, subst, arith, add-one}
+use Rattle.std.proofs.Common.{◌≡◌, ◌≢◌, ℕ, ◌+◌, ◌<◌, ◌≤◌, Bool, true, false, ◌&&◌, ◌||◌, ◌==◌, nat_lt, List, [], ◌∷◌, length, get_or, map, Ok, Some, position, All, AllPairs, Contains, slice_get, refl, sym, ◌∙◌, ap, subst, arith, add-one}
 use Rattle.std.specs.List.{list_any, position_or_len}
 use Rattle.std.specs.Str.{bytes_eq}
 use Rattle.std.proofs.lemmas.Bool.{or_from}
@@ -11,8 +11,8 @@ use Rattle.std.proofs.lemmas.Option.{slice_get_within, get_or_from_slice_get, sl
 use Rattle.std.proofs.lemmas.Slice.Eq.{bytes_eq-Decides}
 use Rattle.toml.specs.Data.{table, boolean, Members}
 use Rattle.toml.specs.View.{items_of}
-use Rattle.ec_device.specs.declared.slave_type.Mailbox.{Mailbox}
 use Rattle.ec_device.specs.declared.slave_type.Pdo.{Pdo}
+use Rattle.ec_device.specs.Hardware.{is_assignable}
 use Rattle.ec_table.specs.declared.fault.Position.{Position}
 use Rattle.ec_table.specs.declared.rows.Format.{Format}
 use Rattle.ec_table.specs.declared.rows.Version.{Version}
@@ -29,11 +29,11 @@ use Rattle.ec_table.specs.InOrder.{rows_after}
 use Rattle.ec_table.specs.Pdos.{indices_of, has_twice}
 use Rattle.ec_table.specs.Reading.{all_in, same_list, assigned_in, slave_at, slave_named, slave_of_type, slave_element, link_at, link_element, table_of_document, table_of_sections, top}
 use Rattle.ec_table.specs.Names.{is_named}
-use Rattle.ec_table.specs.Sound.{IsName, IsType, AreTypes, IsAssignment, IsSlave, AreSlaves, IsVariable, AreVariables, IsLink, IsSound, first_index}
+use Rattle.ec_table.specs.Sound.{IsName, IsType, AreTypes, IsAssignment, AreDownloads, IsSlave, AreSlaves, IsVariable, AreVariables, IsLink, IsSound, first_index}
 use Rattle.ec_table.proofs.Ranges.{ReadPdo, last_index, pdos_toward_read}
 use Rattle.ec_table.specs.Writing.{number, array_of_all, type_members, slave_members, variable_members, link_members, version_number, document_of}
-use Rattle.ec_table.proofs.Written.{number_reads, name_reads, bits_read, rows_written, middle, numbers_read, differ, not_before}
-use Rattle.ec_table.proofs.WrittenRows.{test_from_once, types_read, variables_read}
+use Rattle.ec_table.proofs.Written.{number_reads, name_reads, bits_read, rows_written, middle, numbers_read, parameters_read, differ, not_before}
+use Rattle.ec_table.proofs.WrittenRows.{test_from_once, taken_from, types_read, variables_read}
 use Rattle.ec_table.proofs.SoundRows.{type_at_place}
 
 -- ---- names
@@ -86,29 +86,37 @@ all_in_from [] ys h = refl
 all_in_from (x ∷ xs) ys h =
     rw (any_from_contains x ys (middle (Contains ys) [] x xs (x ∷ xs) refl h), all_in_from xs ys (rest_all (Contains ys) x xs h)) refl
 
-fixed_or_mailbox : (o : Option Mailbox) (same : Bool) → (o ≡ None → same ≡ true) → (is_some o || same) ≡ true
-fixed_or_mailbox None same h = h refl
-fixed_or_mailbox (Some m) same h = refl
+fixed_or_written : (assignable same : Bool) → (assignable ≡ false → same ≡ true) → (assignable || same) ≡ true
+fixed_or_written false same h = h refl
+fixed_or_written true same h = refl
 
 both : (a b : Bool) → a ≡ true → b ≡ true → (a && b) ≡ true
 both a b h k = rw (h, k) refl
 
-assignment_fits : (p : Position) (t : TypeRow) (s : SlaveRow) → ((d : Direction) → IsAssignment t.mailbox (pdos_toward d t) (assigned_toward d s)) → assigned_in p t s ≡ Ok s
+assignment_fits : (p : Position) (t : TypeRow) (s : SlaveRow) → ((d : Direction) → IsAssignment (is_assignable t.mailbox t.hardware) (pdos_toward d t) (assigned_toward d s)) → AreDownloads t.mailbox s.init → assigned_in p t s ≡ Ok s
 unfolding assigned_in
-assignment_fits p t s h =
-    let same : (t.mailbox ≡ None) → (same_list s.outputs (indices_of t.process.outputs) && same_list s.inputs (indices_of t.process.inputs)) ≡ true =
+assignment_fits p t s h downloads =
+    let same : (is_assignable t.mailbox t.hardware ≡ false) → (same_list s.outputs (indices_of t.process.outputs) && same_list s.inputs (indices_of t.process.inputs)) ≡ true =
     λ none. both (same_list s.outputs (indices_of t.process.outputs)) (same_list s.inputs (indices_of t.process.inputs)) ((bytes_eq-Decides s.outputs (indices_of t.process.outputs)).1 ((h Out).fixed none)) ((bytes_eq-Decides s.inputs (indices_of t.process.inputs)).1 ((h In).fixed none)) in
-    rw (all_in_from s.outputs (indices_of t.process.outputs) (h Out).known, all_in_from s.inputs (indices_of t.process.inputs) (h In).known, fixed_or_mailbox t.mailbox (same_list s.outputs (indices_of t.process.outputs) && same_list s.inputs (indices_of t.process.inputs)) same) refl
+    rw (
+      all_in_from s.outputs (indices_of t.process.outputs) (h Out).known,
+      all_in_from s.inputs (indices_of t.process.inputs) (h In).known,
+      fixed_or_written (is_assignable t.mailbox t.hardware) (same_list s.outputs (indices_of t.process.outputs) && same_list s.inputs (indices_of t.process.inputs)) same,
+      taken_from t.mailbox s.init downloads.mailbox,
+    ) refl
 
-no_double : (s : SlaveRow) (t : TypeRow) (found : List SlaveRow) → ((d : Direction) → IsAssignment t.mailbox (pdos_toward d t) (assigned_toward d s)) → is_named (λ (s : SlaveRow). s.name) s.name found ≡ false → (is_named (λ (s : SlaveRow). s.name) s.name found || (has_twice s.outputs || has_twice s.inputs)) ≡ false
+no_double : (s : SlaveRow) (t : TypeRow) (found : List SlaveRow) → ((d : Direction) → IsAssignment (is_assignable t.mailbox t.hardware) (pdos_toward d t) (assigned_toward d s)) → is_named (λ (s : SlaveRow). s.name) s.name found ≡ false → (is_named (λ (s : SlaveRow). s.name) s.name found || (has_twice s.outputs || has_twice s.inputs)) ≡ false
 no_double s t found h fresh = or_from (is_named (λ (s : SlaveRow). s.name) s.name found) (has_twice s.outputs || has_twice s.inputs) fresh (or_from (has_twice s.outputs) (has_twice s.inputs) (test_from_once s.outputs (h Out).once) (test_from_once s.inputs (h In).once))
 
-slave_in : (v : Version) (hardware : Bool) (ts : List TypeRow) (p : Position) (s : SlaveRow) (found : List SlaveRow) (t : TypeRow) → AreTypes ts → IsSlave v ts s → slice_get ts s.type_index ≡ Some t → is_named (λ (s : SlaveRow). s.name) s.name found ≡ false → slave_at (record { version = v; hardware = hardware }) ts p (slave_members v ts s) found ≡ Ok s
+slave_in : (v : Version) (hardware : Bool) (ts : List TypeRow) (p : Position) (s : SlaveRow) (found : List SlaveRow) (t : TypeRow) → let f : Format = record { version = v; hardware = hardware } in
+    AreTypes ts → IsSlave v ts s → (hardware ≡ false → s.init ≡ []) → slice_get ts s.type_index ≡ Some t → is_named (λ (s : SlaveRow). s.name) s.name found ≡ false → slave_at f ts p (slave_members f ts s) found ≡ Ok s
 unfolding slave_at slave_named slave_of_type
-slave_in One hardware ts p s found t types h is fresh =
+slave_in One false ts p s found t types h none is fresh =
     let kind : IsType t = type_at_place ts s.type_index t types is in
-    let fits : (d : Direction) → IsAssignment t.mailbox (pdos_toward d t) (assigned_toward d s) = λ d. h.assigned t d is in
+    let fits : (d : Direction) → IsAssignment (is_assignable t.mailbox t.hardware) (pdos_toward d t) (assigned_toward d s) = λ d. h.assigned t d is in
+    let downloads : AreDownloads t.mailbox s.init = h.init t is in
     let unit : s.unit ≡ 0 = h.one_unit refl in
+    let plain : s.init ≡ [] = none refl in
     rw (
       is,
       name_reads p s.name h.name,
@@ -120,11 +128,33 @@ slave_in One hardware ts p s found t types h is fresh =
       name_place (λ (t : TypeRow). t.name) ts s.type_index t types.once is,
       is,
       ← unit,
+      ← plain,
     )
-    (assignment_fits p t s fits)
-slave_in Two hardware ts p s found t types h is fresh =
+    (assignment_fits p t s fits downloads)
+slave_in One true ts p s found t types h none is fresh =
     let kind : IsType t = type_at_place ts s.type_index t types is in
-    let fits : (d : Direction) → IsAssignment t.mailbox (pdos_toward d t) (assigned_toward d s) = λ d. h.assigned t d is in
+    let fits : (d : Direction) → IsAssignment (is_assignable t.mailbox t.hardware) (pdos_toward d t) (assigned_toward d s) = λ d. h.assigned t d is in
+    let downloads : AreDownloads t.mailbox s.init = h.init t is in
+    let unit : s.unit ≡ 0 = h.one_unit refl in
+    rw (
+      is,
+      name_reads p s.name h.name,
+      name_reads p t.name kind.name,
+      numbers_read p 0x1600 0x17FF s.outputs (assigned_range Out t.process.outputs s.outputs (pdos_toward_read t kind Out).each (fits Out).known),
+      numbers_read p 0x1A00 0x1BFF s.inputs (assigned_range In t.process.inputs s.inputs (pdos_toward_read t kind In).each (fits In).known),
+      number_reads p 0 4294967295 s.serial (omega arith) h.serial,
+      parameters_read p s.init downloads.each downloads.few,
+      no_double s t found fits fresh,
+      name_place (λ (t : TypeRow). t.name) ts s.type_index t types.once is,
+      is,
+      ← unit,
+    )
+    (assignment_fits p t s fits downloads)
+slave_in Two false ts p s found t types h none is fresh =
+    let kind : IsType t = type_at_place ts s.type_index t types is in
+    let fits : (d : Direction) → IsAssignment (is_assignable t.mailbox t.hardware) (pdos_toward d t) (assigned_toward d s) = λ d. h.assigned t d is in
+    let downloads : AreDownloads t.mailbox s.init = h.init t is in
+    let plain : s.init ≡ [] = none refl in
     rw (
       is,
       name_reads p s.name h.name,
@@ -136,17 +166,36 @@ slave_in Two hardware ts p s found t types h is fresh =
       no_double s t found fits fresh,
       name_place (λ (t : TypeRow). t.name) ts s.type_index t types.once is,
       is,
+      ← plain,
     )
-    (assignment_fits p t s fits)
+    (assignment_fits p t s fits downloads)
+slave_in Two true ts p s found t types h none is fresh =
+    let kind : IsType t = type_at_place ts s.type_index t types is in
+    let fits : (d : Direction) → IsAssignment (is_assignable t.mailbox t.hardware) (pdos_toward d t) (assigned_toward d s) = λ d. h.assigned t d is in
+    let downloads : AreDownloads t.mailbox s.init = h.init t is in
+    rw (
+      is,
+      name_reads p s.name h.name,
+      name_reads p t.name kind.name,
+      numbers_read p 0x1600 0x17FF s.outputs (assigned_range Out t.process.outputs s.outputs (pdos_toward_read t kind Out).each (fits Out).known),
+      numbers_read p 0x1A00 0x1BFF s.inputs (assigned_range In t.process.inputs s.inputs (pdos_toward_read t kind In).each (fits In).known),
+      number_reads p 0 4294967295 s.serial (omega arith) h.serial,
+      number_reads p 0 63 s.unit (omega arith) h.unit,
+      parameters_read p s.init downloads.each downloads.few,
+      no_double s t found fits fresh,
+      name_place (λ (t : TypeRow). t.name) ts s.type_index t types.once is,
+      is,
+    )
+    (assignment_fits p t s fits downloads)
 
-pub slave_reads : (f : Format) (ts : List TypeRow) (p : Position) (s : SlaveRow) (found : List SlaveRow) (t : TypeRow) → AreTypes ts → IsSlave f.version ts s → slice_get ts s.type_index ≡ Some t → is_named (λ (s : SlaveRow). s.name) s.name found ≡ false → slave_at f ts p (slave_members f.version ts s) found ≡ Ok s
-slave_reads f ts p s found t types h is fresh = slave_in f.version f.hardware ts p s found t types h is fresh
+pub slave_reads : (f : Format) (ts : List TypeRow) (p : Position) (s : SlaveRow) (found : List SlaveRow) (t : TypeRow) → AreTypes ts → IsSlave f.version ts s → (f.hardware ≡ false → s.init ≡ []) → slice_get ts s.type_index ≡ Some t → is_named (λ (s : SlaveRow). s.name) s.name found ≡ false → slave_at f ts p (slave_members f ts s) found ≡ Ok s
+slave_reads f ts p s found t types h none is fresh = slave_in f.version f.hardware ts p s found t types h none is fresh
 
-pub slaves_read : (f : Format) (ts : List TypeRow) (ss : List SlaveRow) → AreTypes ts → AreSlaves f.version ts ss → rows_after (slave_element f ts) [] 0 (items_of (map (λ s. table (slave_members f.version ts s)) ss)) ≡ Ok ss
-slaves_read f ts ss types h = rows_written (slave_element f ts) (λ s. table (slave_members f.version ts s)) [] ss (λ before s after e.
+pub slaves_read : (f : Format) (ts : List TypeRow) (ss : List SlaveRow) → AreTypes ts → AreSlaves f.version ts ss → All (λ (s : SlaveRow). f.hardware ≡ false → s.init ≡ []) ss → rows_after (slave_element f ts) [] 0 (items_of (map (λ s. table (slave_members f ts s)) ss)) ≡ Ok ss
+slaves_read f ts ss types h none = rows_written (slave_element f ts) (λ s. table (slave_members f ts s)) [] ss (λ before s after e.
     let this : IsSlave f.version ts s = middle (IsSlave f.version ts) before s after ss e h.each in
     let kind = there_is ts s.type_index this.known in
-    slave_reads f ts _ s before kind.0 types this kind.1 (not_before (λ (s : SlaveRow). s.name) before s after ss e h.once))
+    slave_reads f ts _ s before kind.0 types this (middle (λ (s : SlaveRow). f.hardware ≡ false → s.init ≡ []) before s after ss e none) kind.1 (not_before (λ (s : SlaveRow). s.name) before s after ss e h.once))
 
 -- ---- links
 
@@ -204,11 +253,11 @@ document_reads c h =
     rw (
       format_reads top (format_of c),
       section_reads top type_members c.types,
-      section_reads top (slave_members c.version c.types) c.slaves,
+      section_reads top (slave_members (format_of c) c.types) c.slaves,
       section_reads top (variable_members c.hardware) c.variables,
       section_reads top (link_members c.slaves c.variables) c.links,
-      types_read (format_of c) c.types h.types h.format.types,
-      slaves_read (format_of c) c.types c.slaves h.types h.slaves,
+      types_read (format_of c) c.types h.types h.format.types (λ k t lt none. h.format.type_init none k t lt),
+      slaves_read (format_of c) c.types c.slaves h.types h.slaves (λ k s lt none. h.format.slave_init none k s lt),
       variables_read (format_of c) c.variables h.variables (λ k w lt none. h.format.variables none k w lt),
       links_read (format_of c) c.types c.slaves c.variables c.links h.slaves h.variables h.links,
     ) refl

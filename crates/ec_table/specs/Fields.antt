@@ -57,13 +57,15 @@ required shape.Link f = codes "index" ∷ codes "slave" ∷ codes "sub" ∷ code
 abbrev pub optional_of_type : (hardware : Bool) → List (List ℕ)
 optional_of_type false = codes "lrw" ∷ codes "mailbox" ∷ codes "rxpdo" ∷ codes "txpdo" ∷ []
 optional_of_type true =
-    codes "firmware" ∷ codes "fmmus" ∷ codes "in_manager" ∷ codes "in_start" ∷ codes "lrw" ∷ codes "mailbox" ∷ codes "out_manager"
-    ∷ codes "out_start" ∷ codes "revision" ∷ codes "rxpdo" ∷ codes "txpdo" ∷ []
+    codes "emergency" ∷ codes "firmware" ∷ codes "fixed" ∷ codes "fmmus" ∷ codes "in_manager" ∷ codes "in_start" ∷ codes "init" ∷ codes "lrw"
+    ∷ codes "mailbox" ∷ codes "out_manager" ∷ codes "out_start" ∷ codes "revision" ∷ codes "rxpdo" ∷ codes "slow" ∷ codes "txpdo" ∷ []
 
--- the keys that a slave may have besides
-abbrev pub optional_of_slave : Version → List (List ℕ)
-optional_of_slave versions.One = codes "in" ∷ codes "out" ∷ codes "serial" ∷ []
-optional_of_slave versions.Two = codes "in" ∷ codes "out" ∷ codes "serial" ∷ codes "unit" ∷ []
+-- the keys that a slave may have besides: a sync unit since version 2, and downloads in a table for hardware
+abbrev pub optional_of_slave : Version → (hardware : Bool) → List (List ℕ)
+optional_of_slave versions.One false = codes "in" ∷ codes "out" ∷ codes "serial" ∷ []
+optional_of_slave versions.Two false = codes "in" ∷ codes "out" ∷ codes "serial" ∷ codes "unit" ∷ []
+optional_of_slave versions.One true = codes "in" ∷ codes "init" ∷ codes "out" ∷ codes "serial" ∷ []
+optional_of_slave versions.Two true = codes "in" ∷ codes "init" ∷ codes "out" ∷ codes "serial" ∷ codes "unit" ∷ []
 
 -- the key that a variable may have besides
 abbrev pub optional_of_variable : (hardware : Bool) → List (List ℕ)
@@ -75,7 +77,7 @@ abbrev pub optional : Shape → Format → List (List ℕ)
 optional shape.Document f = codes "hardware" ∷ codes "link" ∷ codes "slave" ∷ codes "type" ∷ codes "variable" ∷ codes "version" ∷ []
 optional shape.Type f = optional_of_type f.hardware
 optional shape.Pdo f = []
-optional shape.Slave f = optional_of_slave f.version
+optional shape.Slave f = optional_of_slave f.version f.hardware
 optional shape.Variable f = optional_of_variable f.hardware
 optional shape.Link f = codes "bits" ∷ []
 

@@ -1,11 +1,12 @@
 -- The keys of the tables in a document, in the order in which their values are read.
-use Rattle.std.specs.Prelude.{ℕ, Bool, true, false, not, List, [], ◌∷◌, map, codes, get_or}
+use Rattle.std.specs.Prelude.{ℕ, Bool, true, false, not, List, [], ◌∷◌, map, codes, get_or, Option, None, is_some, position, if◌then◌else◌}
 use Rattle.std.specs.Borrow.{Bor}
+use Rattle.std.specs.Str.{bytes_eq}
 use Rattle.ec_device.specs.Types.{first_output_index, first_input_index}
 use Rattle.ec_table.specs.Fields.{full_format}
 use Rattle.ec_table.specs.Pdos.{last_output_index, last_input_index}
 use Rattle.ec_table.specs.declared.keys.Rule.{Rule}
-use Rattle.ec_table.specs.declared.keys.Rule.TheVariants.{Tables, Name, Number, Mailbox, Manager, Indices, Pdos, Index, Entries, Direction, LinkBits, Truth}
+use Rattle.ec_table.specs.declared.keys.Rule.TheVariants.{Tables, Name, Number, Mailbox, Manager, Parameters, Indices, Pdos, Index, Entries, Direction, LinkBits, Truth}
 use Rattle.ec_table.specs.declared.keys.Shape.{Shape}
 use Rattle.ec_table.specs.declared.keys.Shape.TheVariants as shape
 use Rattle.ec_table.specs.declared.rows.Format.{Format}
@@ -19,15 +20,29 @@ KeyRow = List ℕ × Rule × Bool
 abbrev pub key_row : Bor (List ℕ) × Rule × Bool → KeyRow
 key_row k = (k.0.now, k.1, k.2)
 
--- the sync unit of a slave, a key since version 2
-abbrev pub unit_key : Version → List KeyRow
-unit_key versions.One = []
-unit_key versions.Two = (codes "unit", Number 0 63, false) ∷ []
+-- the sync unit of a slave, a key since version 2, and the keys behind it
+abbrev pub unit_key : Version → List KeyRow → List KeyRow
+unit_key versions.One keys = keys
+unit_key versions.Two keys = (codes "unit", Number 0 63, false) ∷ keys
+
+-- the downloads to a slave, a key of a table for hardware
+abbrev pub init_key : Bool → List KeyRow
+init_key false = []
+init_key true = (codes "init", Parameters, false) ∷ []
 
 -- what a type says of real devices, keys of a table for hardware
 abbrev pub hardware_keys : Bool → List KeyRow
 hardware_keys false = []
-hardware_keys true = (codes "out_manager", Manager, false) ∷ (codes "in_manager", Manager, false) ∷ (codes "firmware", Truth, false) ∷ (codes "fmmus", Number 2 4, false) ∷ []
+hardware_keys true =
+    (codes "out_manager", Manager, false)
+    ∷ (codes "in_manager", Manager, false)
+    ∷ (codes "firmware", Truth, false)
+    ∷ (codes "fixed", Truth, false)
+    ∷ (codes "init", Parameters, false)
+    ∷ (codes "slow", Number 0 100, false)
+    ∷ (codes "emergency", Truth, false)
+    ∷ (codes "fmmus", Number 2 4, false)
+    ∷ []
 
 -- the sign of a variable, a key of a table for hardware
 abbrev pub signed_key : Bool → List KeyRow
@@ -66,7 +81,7 @@ keys_of shape.Slave f =
     ∷ (codes "out", Indices first_output_index last_output_index, false)
     ∷ (codes "in", Indices first_input_index last_input_index, false)
     ∷ (codes "serial", Number 0 4294967295, false)
-    ∷ unit_key f.version
+    ∷ unit_key f.version (init_key f.hardware)
 keys_of shape.Variable f =
     (codes "name", Name, true)
     ∷ (codes "dir", Direction, true)
@@ -82,6 +97,10 @@ keys_of shape.Link f =
 
 abbrev pub names_of : Shape → Format → List (List ℕ)
 names_of s f = map (λ k. k.0) (keys_of s f)
+
+-- the place of a name among all keys of a shape, if it is a key in this format
+abbrev pub place_in : Shape → Format → List ℕ → Option ℕ
+place_in s f name = if is_some (position (bytes_eq name) (names_of s f)) then position (bytes_eq name) (names_of s full_format) else None
 
 -- what the key at a place takes; behind the last key `Tables`
 abbrev pub rule_at : Shape → ℕ → Rule

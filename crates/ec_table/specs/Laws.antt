@@ -6,6 +6,8 @@ use Rattle.toml.specs.View.{items_of}
 use Rattle.std.specs.Option.{ForSome}
 use Rattle.ec_device.specs.declared.hardware.Hardware.{Hardware}
 use Rattle.ec_device.specs.Hardware.{usual_outputs, usual_inputs}
+use Rattle.ec_device.specs.Parameters.{AreParameters}
+use Rattle.ec_device.specs.Types.{SlaveKind}
 use Rattle.ec_table.specs.declared.fault.Fault.{Fault}
 use Rattle.ec_table.specs.declared.fault.Fault.TheVariants.{Toml, BadKey, BadValue}
 use Rattle.ec_table.specs.declared.rows.Format.{Format}
@@ -25,7 +27,7 @@ use Rattle.ec_table.specs.Pdos.{indices_of}
 use Rattle.ec_table.specs.Reading.{type_at, slave_at, variable_at, link_at, type_element, slave_element, variable_element, link_element, top, stated_format, table_of_document, table_of}
 use Rattle.ec_table.specs.Fields.{keys_are, section_in}
 use Rattle.ec_device.specs.Objects.{bits_of, assigned_entries}
-use Rattle.ec_table.specs.Objects.{object_bits, entries_of, type_of}
+use Rattle.ec_table.specs.Objects.{object_bits, entries_of, type_of, kind_of}
 use Rattle.ec_table.specs.Writing.{document_of}
 use Rattle.ec_table.specs.declared.keys.Shape.TheVariants as shape
 
@@ -99,30 +101,36 @@ pub record DocumentFaultsInOrder : Type 0 where
 abbrev pub LeavesOut : Members → List ℕ → Type 0
 LeavesOut ms key = get_member key ms ≡ None
 
--- a type for hardware has then the usual managers, firmware, four FMMUs, any revision, and starts of 0
+-- a type for hardware has then the usual managers, firmware that decides at once and sends no emergency, an assignment that can be
+-- written, four FMMUs, any revision, and starts of 0
 pub record HardwareDefaults (ms : Members) (t : TypeRow) (h : Hardware) : Type 0 where
   pub out_manager : LeavesOut ms (codes "out_manager") → h.out_manager ≡ usual_outputs
   pub in_manager : LeavesOut ms (codes "in_manager") → h.in_manager ≡ usual_inputs
   pub firmware : LeavesOut ms (codes "firmware") → IsTrue h.has_firmware
+  pub fixed : LeavesOut ms (codes "fixed") → h.is_fixed ≡ false
+  pub slow : LeavesOut ms (codes "slow") → h.slow ≡ 0
+  pub emergency : LeavesOut ms (codes "emergency") → h.has_emergency ≡ false
   pub fmmus : LeavesOut ms (codes "fmmus") → h.fmmus ≡ 4
   pub revision : LeavesOut ms (codes "revision") → IsTrue h.any_revision
   pub out_start : LeavesOut ms (codes "out_start") → t.process.out_start ≡ 0
   pub in_start : LeavesOut ms (codes "in_start") → t.process.in_start ≡ 0
 
--- a type has then no mailbox, no PDOs of the direction, and takes part in LRW datagrams
+-- a type has then no mailbox, no PDOs of the direction, no downloads, and takes part in LRW datagrams
 pub record TypeDefaults (ms : Members) (t : TypeRow) : Type 0 where
   pub mailbox : LeavesOut ms (codes "mailbox") → t.mailbox ≡ None
   pub outputs : LeavesOut ms (codes "rxpdo") → t.process.outputs ≡ []
   pub inputs : LeavesOut ms (codes "txpdo") → t.process.inputs ≡ []
   pub lrw : LeavesOut ms (codes "lrw") → IsTrue t.lrw
   pub hardware : ForSome t.hardware (HardwareDefaults ms t)
+  pub init : LeavesOut ms (codes "init") → t.init ≡ []
 
--- a slave assigns then all PDOs of its type in order, has serial number 0 and is in sync unit 0
+-- a slave assigns then all PDOs of its type in order, has serial number 0, is in sync unit 0 and gets no downloads of its own
 pub record SlaveDefaults (ts : List TypeRow) (ms : Members) (s : SlaveRow) : Type 0 where
   pub outputs : LeavesOut ms (codes "out") → (t : TypeRow) → slice_get ts s.type_index ≡ Some t → s.outputs ≡ indices_of t.process.outputs
   pub inputs : LeavesOut ms (codes "in") → (t : TypeRow) → slice_get ts s.type_index ≡ Some t → s.inputs ≡ indices_of t.process.inputs
   pub serial : LeavesOut ms (codes "serial") → s.serial ≡ 0
   pub unit : LeavesOut ms (codes "unit") → s.unit ≡ 0
+  pub init : LeavesOut ms (codes "init") → s.init ≡ []
 
 -- a link joins then all bits of its variable, from bit 0 of both
 pub record LinkDefaults (ws : List VariableRow) (ms : Members) (l : LinkRow) : Type 0 where
@@ -163,6 +171,11 @@ ObjectBitsAreCounted = (c : Contents) (s : ℕ) (d : Direction) → length (obje
 -- A slave's entries are those of its type's PDOs that it assigns, one after another.
 abbrev pub EntriesAreAssigned : Type 0
 EntriesAreAssigned = (c : Contents) (s : ℕ) (d : Direction) (r : SlaveRow) (t : TypeRow) → slice_get c.slaves s ≡ Some r → type_of c s ≡ Some t → entries_of c s d ≡ assigned_entries (pdos_toward d t) (assigned_toward d r)
+
+-- The downloads to a slave, those of its type and then its own, are within the limits of a type. Without hardware there are none.
+pub record DownloadsFitTheType : Type 0 where
+  pub limits : (c : Contents) (s : ℕ) (k : SlaveKind) → IsSound c → kind_of c s ≡ Some k → AreParameters k.mailbox k.init
+  pub none : (c : Contents) (s : ℕ) (k : SlaveKind) → IsSound c → kind_of c s ≡ Some k → c.hardware ≡ false → k.init ≡ []
 
 -- A direction of a slave of a table has at most 65536 bits, gaps with them.
 abbrev pub EntriesAreFew : Type 0

@@ -1,4 +1,4 @@
--- To be believed, in this order: what a table holds (Contents), and how a text is read as one (Fields, Names, Pdos, Reading, with
+-- To be believed, in this order: what a table holds (Contents), and how a text is read as one (Fields, Names, Pdos, Parameters, Reading, with
 -- the faults and their order: Faults, InOrder), and what a table says of a slave or a link (Objects) or of a value (Numbers).
 pub mod Contents
 pub mod Errors
@@ -8,6 +8,7 @@ pub mod Keys
 pub mod Names
 pub mod InOrder
 pub mod Pdos
+pub mod Parameters
 pub mod Reading
 pub mod Objects
 pub mod Numbers

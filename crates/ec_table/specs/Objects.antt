@@ -1,10 +1,11 @@
--- What a table says of one slave or one link: its type, its identity, its face if it is full, and the entries of the PDOs that it assigns (ETG.1000.6, "Object dictionary").
-use Rattle.std.specs.Prelude.{ℕ, ◌+◌, ◌==◌, if◌then◌else◌, List, [], length, Option, Some, None, is_none, slice_get, option_map, option_and_then}
+-- What a table says of one slave or one link: its type, its identity, its face if it is full, the downloads to it, and the entries of the PDOs that it assigns (ETG.1000.6, "Object dictionary").
+use Rattle.std.specs.Prelude.{ℕ, ◌+◌, ◌==◌, if◌then◌else◌, List, [], ◌++◌, length, Option, Some, None, is_none, slice_get, option_map, option_and_then}
 use Rattle.std.specs.List.{flat_map}
 use Rattle.std.specs.Option.{option_map_or}
 use Rattle.ec_device.specs.declared.slave_type.Entry.{Entry}
 use Rattle.ec_device.specs.declared.slave_type.Identity.{Identity}
 use Rattle.ec_device.specs.declared.slave_type.Face.{Face}
+use Rattle.ec_device.specs.declared.parameter.Parameter.{Parameter}
 use Rattle.ec_device.specs.Types.{SlaveKind, device_identity}
 use Rattle.ec_device.specs.Hardware.{other_name}
 use Rattle.ec_device.specs.Objects.{ObjectBit, entry_bits, assigned_entries}
@@ -42,6 +43,7 @@ kind_of_type t = record {
   lrw = t.lrw;
   face = None;
   hardware = t.hardware;
+  init = t.init;
 }
 
 -- the face of slave s, of that type, if it is full: the name of its type, and whether it is the last of its ring
@@ -52,9 +54,13 @@ face_of c s t = record { name = t.name; is_last = s + 1 == length c.slaves }
 abbrev pub face_shown : Contents → ℕ → TypeRow → Option Face
 face_shown c s t = if is_none t.hardware then Some (face_of c s t) else None
 
--- slave s, of that type: it may have a face if the table's slaves are full
+-- what is downloaded to slave s behind the downloads of its type
+abbrev pub own_init : Contents → ℕ → List Parameter
+own_init c s = option_map_or (λ (r : SlaveRow). r.init) (slice_get c.slaves s) []
+
+-- slave s, of that type: it may have a face if the table's slaves are full, and has downloads of its own
 abbrev pub kind_at : Contents → ℕ → TypeRow → SlaveKind
-kind_at c s t = record (kind_of_type t) { face = if c.full then face_shown c s t else None }
+kind_at c s t = record (kind_of_type t) { face = if c.full then face_shown c s t else None; init = t.init ++ own_init c s }
 
 -- the type of slave s, as a slave has it
 abbrev pub kind_of : Contents → ℕ → Option SlaveKind

@@ -9,11 +9,13 @@ use Rattle.ec_table.specs.declared.fault.Fault.{Fault}
 use Rattle.ec_table.specs.declared.fault.Fault.TheVariants.{Toml, BadKey, BadValue, TwiceNamed, UnknownName}
 use Rattle.ec_table.specs.declared.fault.Position.{Position}
 use Rattle.ec_table.specs.declared.fault.Section.TheVariants as section
+use Rattle.ec_table.specs.declared.described.Manner.{Manner}
 use Rattle.ec_table.specs.declared.rows.Format.{Format}
 use Rattle.ec_device.specs.declared.slave_type.Device.{Device}
 use Rattle.ec_device.specs.declared.slave_type.Mailbox.{Mailbox}
 use Rattle.ec_device.specs.declared.hardware.Hardware.{Hardware}
-use Rattle.ec_device.specs.Hardware.{usual_outputs, usual_inputs, are_pins}
+use Rattle.ec_device.specs.declared.parameter.Parameter.{Parameter}
+use Rattle.ec_device.specs.Hardware.{usual_outputs, usual_inputs, are_pins, is_assignable}
 use Rattle.ec_device.specs.Types.{first_output_index, first_input_index}
 use Rattle.ec_table.specs.declared.rows.ProcessData.{ProcessData}
 use Rattle.ec_table.specs.declared.rows.TypeRow.{TypeRow}
@@ -26,6 +28,7 @@ use Rattle.ec_table.specs.declared.slaves.Written.{Written}
 use Rattle.ec_table.specs.Contents.{Contents}
 use Rattle.ec_table.specs.InOrder.{members_in, rows_after}
 use Rattle.ec_table.specs.Names.{is_named, index_named}
+use Rattle.ec_table.specs.Parameters.{parameters_in, are_taken}
 use Rattle.ec_table.specs.Pdos.{last_output_index, last_input_index, pdos_in, indices_of, has_twice, numbers_in}
 use Rattle.ec_table.specs.Fields.{◌>>=◌, must, keys_are, name_in, direction_in, mailbox_in, section_in, number_in, number_or_0, truth_in, format_in, manager_in, fmmus_in, link_bits_in}
 
@@ -52,10 +55,18 @@ process_in p out_written in_written rxpdo txpdo = do
 abbrev pub process_twice : ProcessData → Bool
 process_twice d = has_twice (indices_of d.outputs) || has_twice (indices_of d.inputs)
 
--- what a type for hardware says of real devices, by the values under `out_manager`, `in_manager`, `firmware`, `fmmus` and `revision`:
--- also whether its outputs begin at the pins, and whether any revision fits
-unfoldable pub described : Position → ProcessData → Option Data → Option Data → Option Data → Option Data → Option Data → Result Hardware Fault
-described p process out_written in_written firmware_written fmmus_written revision_written = do
+-- whether a device's assignment is fixed, and how a simulated slave behaves, by the values under `fixed`, `slow` and `emergency`
+unfoldable pub manner_in : Position → Option Data → Option Data → Option Data → Result Manner Fault
+manner_in p fixed_written slow_written emergency_written = do
+  is_fixed ← truth_in p false fixed_written
+  slow ← number_or_0 p 100 slow_written
+  has_emergency ← truth_in p false emergency_written
+  Ok (record { is_fixed = is_fixed; slow = slow; has_emergency = has_emergency })
+
+-- what a type for hardware says of real devices, by its manner and the values under `out_manager`, `in_manager`, `firmware`, `fmmus` and
+-- `revision`: also whether its outputs begin at the pins, and whether any revision fits
+unfoldable pub described : Position → ProcessData → Manner → Option Data → Option Data → Option Data → Option Data → Option Data → Result Hardware Fault
+described p process manner out_written in_written firmware_written fmmus_written revision_written = do
   out_manager ← manager_in p usual_outputs out_written
   in_manager ← manager_in p usual_inputs in_written
   has_firmware ← truth_in p true firmware_written
@@ -65,6 +76,9 @@ described p process out_written in_written firmware_written fmmus_written revisi
     in_manager = in_manager;
     has_pins = are_pins process.out_start;
     has_firmware = has_firmware;
+    is_fixed = manner.is_fixed;
+    slow = manner.slow;
+    has_emergency = manner.has_emergency;
     fmmus = fmmus;
     any_revision = is_none revision_written;
   })
@@ -74,22 +88,33 @@ abbrev pub described_if : (hardware : Bool) → Result Hardware Fault → Result
 described_if false read = Ok None
 described_if true read = read >>= (λ h. Ok (Some h))
 
+-- by the values under its keys
+abbrev pub hardware_by : Format → Position → ProcessData → (out_manager in_manager firmware fixed slow emergency fmmus revision : Option Data) → Result (Option Hardware) Fault
+hardware_by f p process out_manager in_manager firmware fixed slow emergency fmmus revision =
+    described_if f.hardware (manner_in p fixed slow emergency >>= (λ manner. described p process manner out_manager in_manager firmware fmmus revision))
+
 abbrev pub hardware_in : Format → Position → ProcessData → Members → Result (Option Hardware) Fault
 hardware_in f p process ms =
-    described_if f.hardware (described p process (get_member (codes "out_manager") ms) (get_member (codes "in_manager") ms)
-    (get_member (codes "firmware") ms) (get_member (codes "fmmus") ms) (get_member (codes "revision") ms))
+    hardware_by f p process (get_member (codes "out_manager") ms) (get_member (codes "in_manager") ms) (get_member (codes "firmware") ms) (get_member (codes "fixed") ms)
+    (get_member (codes "slow") ms) (get_member (codes "emergency") ms) (get_member (codes "fmmus") ms) (get_member (codes "revision") ms)
 
--- whether a device can be so: each direction has a manager of its own and of its mode, and a mailbox has managers 0 and 1 and firmware
+-- whether a device can be so: each direction has a manager of its own and of its mode, a mailbox has managers 0 and 1 and firmware, and
+-- a fixed assignment is read by a mailbox
 abbrev pub can_be : Option Mailbox → Hardware → Bool
 can_be mailbox h =
     not (h.out_manager.number == h.in_manager.number)
     && ((h.out_manager.control % 16 == 4) && (h.in_manager.control % 16 == 0))
     && (is_none mailbox || (nat_le 2 h.out_manager.number && (nat_le 2 h.in_manager.number && h.has_firmware)))
+    && (not h.is_fixed || is_some mailbox)
 
 -- a type that says nothing can
-abbrev pub is_possible : Option Mailbox → Option Hardware → Bool
-is_possible mailbox None = true
-is_possible mailbox (Some h) = can_be mailbox h
+abbrev pub can_be_if : Option Mailbox → Option Hardware → Bool
+can_be_if mailbox None = true
+can_be_if mailbox (Some h) = can_be mailbox h
+
+-- whether a device can be what its type says, and can take what is downloaded to it
+abbrev pub is_possible : Option Mailbox → Option Hardware → List Parameter → Bool
+is_possible mailbox hardware init = can_be_if mailbox hardware && are_taken mailbox init
 
 -- the type of this name that an element states; whether another type has the name
 unfoldable pub type_named : Format → Position → Members → List ℕ → Bool → Result TypeRow Fault
@@ -99,9 +124,10 @@ type_named f p ms name is_taken = do
   process ← process_in p (get_member (codes "out_start") ms) (get_member (codes "in_start") ms) (get_member (codes "rxpdo") ms) (get_member (codes "txpdo") ms)
   lrw ← truth_in p true (get_member (codes "lrw") ms)
   hardware ← hardware_in f p process ms
+  init ← parameters_in p (get_member (codes "init") ms)
   _ ← must (not (is_taken || process_twice process)) (TwiceNamed p)
-  _ ← must (is_possible mailbox hardware) (BadValue p)
-  Ok (record { name = name; device = device; mailbox = mailbox; process = process; lrw = lrw; hardware = hardware })
+  _ ← must (is_possible mailbox hardware init) (BadValue p)
+  Ok (record { name = name; device = device; mailbox = mailbox; process = process; lrw = lrw; hardware = hardware; init = init })
 
 -- the type that an element states, after those found
 unfoldable pub type_at : Format → Position → Members → List TypeRow → Result TypeRow Fault
@@ -123,11 +149,17 @@ all_in xs ys = list_all (λ x. list_any (λ y. y == x) ys) xs
 abbrev pub same_list : List ℕ → List ℕ → Bool
 same_list xs ys = bytes_eq xs ys
 
--- the assigned objects are the type's, and without a mailbox all of them in order
+-- a slave that doesn't let itself be assigned has all objects of its type in order, and one without a mailbox gets no downloads
+abbrev pub suits : TypeRow → SlaveRow → Bool
+suits t s =
+    (is_assignable t.mailbox t.hardware || (same_list s.outputs (indices_of t.process.outputs) && same_list s.inputs (indices_of t.process.inputs)))
+    && are_taken t.mailbox s.init
+
+-- the assigned objects are the type's, and the slave suits its type
 unfoldable pub assigned_in : Position → TypeRow → SlaveRow → Result SlaveRow Fault
 assigned_in p t s = do
   _ ← must (all_in s.outputs (indices_of t.process.outputs) && all_in s.inputs (indices_of t.process.inputs)) (UnknownName p)
-  _ ← must (is_some t.mailbox || (same_list s.outputs (indices_of t.process.outputs) && same_list s.inputs (indices_of t.process.inputs))) (BadValue p)
+  _ ← must (suits t s) (BadValue p)
   Ok s
 
 -- the slave of this name and type, with what its element writes; left out, `out` and `in` are all objects of the type in order
@@ -135,7 +167,7 @@ unfoldable pub slave_of_type : List TypeRow → Position → List ℕ → List �
 slave_of_type types p name type_name w = do
   at ← ok_or (index_named (λ (t : TypeRow). t.name) type_name types) (UnknownName p)
   t ← ok_or (slice_get types at) (UnknownName p)
-  assigned_in p t (record { name = name; type_index = at; outputs = unwrap_or w.outputs (indices_of t.process.outputs); inputs = unwrap_or w.inputs (indices_of t.process.inputs); serial = w.serial; unit = w.unit })
+  assigned_in p t (record { name = name; type_index = at; outputs = unwrap_or w.outputs (indices_of t.process.outputs); inputs = unwrap_or w.inputs (indices_of t.process.inputs); serial = w.serial; unit = w.unit; init = w.init })
 
 -- the slave of this name that an element states; whether another slave has the name
 unfoldable pub slave_named : List TypeRow → Position → Members → List ℕ → Bool → Result SlaveRow Fault
@@ -145,8 +177,9 @@ slave_named types p ms name is_taken = do
   inputs ← numbers_in p first_input_index last_input_index (get_member (codes "in") ms)
   serial ← number_or_0 p 4294967295 (get_member (codes "serial") ms)
   unit ← number_or_0 p 63 (get_member (codes "unit") ms)
+  init ← parameters_in p (get_member (codes "init") ms)
   _ ← must (not (is_taken || (has_twice (unwrap_or outputs []) || has_twice (unwrap_or inputs [])))) (TwiceNamed p)
-  slave_of_type types p name type_name (record { outputs = outputs; inputs = inputs; serial = serial; unit = unit })
+  slave_of_type types p name type_name (record { outputs = outputs; inputs = inputs; serial = serial; unit = unit; init = init })
 
 -- the slave that an element states, after those found
 unfoldable pub slave_at : Format → List TypeRow → Position → Members → List SlaveRow → Result SlaveRow Fault

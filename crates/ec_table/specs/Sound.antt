@@ -1,12 +1,14 @@
 -- What each table that was read keeps.
-use Rattle.std.specs.Prelude.{◌≡◌, ◌≢◌, ℕ, ◌<◌, ◌≤◌, List, length, Option, Some, None, All, AllPairs, Contains, IsTrue, false, is_some, slice_get}
+use Rattle.std.specs.Prelude.{◌≡◌, ◌≢◌, ℕ, ◌<◌, ◌≤◌, ◌^◌, List, [], length, Bool, Option, Some, None, All, AllPairs, Contains, IsTrue, false, is_some, slice_get}
 use Rattle.std.specs.Option.{ForSome}
 use Rattle.ec_device.specs.declared.slave_type.Entry.{Entry}
 use Rattle.ec_device.specs.declared.slave_type.Pdo.{Pdo}
 use Rattle.ec_device.specs.declared.slave_type.Mailbox.{Mailbox}
 use Rattle.ec_device.specs.declared.slave_type.Device.{Device}
 use Rattle.ec_device.specs.declared.hardware.Hardware.{Hardware}
-use Rattle.ec_device.specs.Hardware.{IsHardware, are_pins}
+use Rattle.ec_device.specs.declared.parameter.Parameter.{Parameter}
+use Rattle.ec_device.specs.Hardware.{IsHardware, are_pins, is_assignable}
+use Rattle.ec_device.specs.Parameters.{bit_count}
 use Rattle.ec_device.specs.Types.{IsWithinLimits, first_output_index, first_input_index}
 use Rattle.ec_table.specs.declared.rows.Version.{Version}
 use Rattle.ec_table.specs.declared.rows.Version.TheVariants.{One}
@@ -46,6 +48,18 @@ pub record HasName (e : Entry) : Type 0 where
   pub index : e.index ≤ 65535
   pub subindex : e.subindex ≤ 255
 
+-- a download: an index of 16 bits, a subindex of 8, and a value of its bits
+pub record IsDownload (q : Parameter) : Type 0 where
+  pub index : q.index ≤ 65535
+  pub subindex : q.subindex ≤ 255
+  pub value : q.value < 2 ^ bit_count q.size
+
+-- the downloads of a type or of a slave: at most 64, and none without a mailbox
+pub record AreDownloads (m : Option Mailbox) (qs : List Parameter) : Type 0 where
+  pub few : length qs ≤ 64
+  pub each : All IsDownload qs
+  pub mailbox : m ≡ None → qs ≡ []
+
 -- the indices of process data objects: RxPDOs are outputs, TxPDOs inputs (ETG.1000.6, "Object dictionary")
 abbrev pub first_index : Direction → ℕ
 first_index Out = first_output_index
@@ -67,6 +81,7 @@ pub record IsType (t : TypeRow) : Type 0 where
   pub in_start : t.process.in_start ≤ 65535
   pub entries : (d : Direction) → All (λ (q : Pdo). All HasName q.entries) (pdos_toward d t)
   pub hardware : ForSome t.hardware (IsDescribed t)
+  pub init : AreDownloads t.mailbox t.init
 
 pub record AreTypes (ts : List TypeRow) : Type 0 where
   pub each : All IsType ts
@@ -74,20 +89,21 @@ pub record AreTypes (ts : List TypeRow) : Type 0 where
 
 -- ---- slaves
 
--- the assigned objects of one direction: each the type's, each once, and without a mailbox all in order
-pub record IsAssignment (mailbox : Option Mailbox) (pdos : List Pdo) (assigned : List ℕ) : Type 0 where
+-- the assigned objects of one direction: each the type's, each once, and all in order if the slave doesn't let itself be assigned
+pub record IsAssignment (assignable : Bool) (pdos : List Pdo) (assigned : List ℕ) : Type 0 where
   pub known : All (Contains (indices_of pdos)) assigned
   pub once : IsOnce assigned
-  pub fixed : mailbox ≡ None → assigned ≡ indices_of pdos
+  pub fixed : assignable ≡ false → assigned ≡ indices_of pdos
 
 pub record IsSlave (v : Version) (ts : List TypeRow) (s : SlaveRow) : Type 0 where
   pub name : IsName s.name
   pub known : s.type_index < length ts
-  pub assigned : (t : TypeRow) (d : Direction) → slice_get ts s.type_index ≡ Some t → IsAssignment t.mailbox (pdos_toward d t) (assigned_toward d s)
+  pub assigned : (t : TypeRow) (d : Direction) → slice_get ts s.type_index ≡ Some t → IsAssignment (is_assignable t.mailbox t.hardware) (pdos_toward d t) (assigned_toward d s)
   pub serial : s.serial ≤ 4294967295
   pub unit : s.unit ≤ 63
   -- version 1 has one sync unit
   pub one_unit : v ≡ One → s.unit ≡ 0
+  pub init : (t : TypeRow) → slice_get ts s.type_index ≡ Some t → AreDownloads t.mailbox s.init
 
 pub record AreSlaves (v : Version) (ts : List TypeRow) (ss : List SlaveRow) : Type 0 where
   pub each : All (IsSlave v ts) ss
@@ -123,9 +139,12 @@ pub record IsLink (ss : List SlaveRow) (ws : List VariableRow) (l : LinkRow) : T
 
 -- ---- the whole
 
--- each type of a table for hardware says what it has of real devices; in other tables none does, and no variable has a sign
+-- each type of a table for hardware says what it has of real devices; in other tables none does, nothing is downloaded, and no variable
+-- has a sign
 pub record IsOfFormat (c : Contents) : Type 0 where
   pub types : All (λ (t : TypeRow). is_some t.hardware ≡ c.hardware) c.types
+  pub type_init : c.hardware ≡ false → All (λ (t : TypeRow). t.init ≡ []) c.types
+  pub slave_init : c.hardware ≡ false → All (λ (s : SlaveRow). s.init ≡ []) c.slaves
   pub variables : c.hardware ≡ false → All (λ (w : VariableRow). w.signed ≡ false) c.variables
 
 pub record IsSound (c : Contents) : Type 0 where

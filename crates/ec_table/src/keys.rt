@@ -6,8 +6,8 @@ ghost use Rattle.ec_table.specs.declared.keys.Shape.TheVariants as shape;
 use crate::pdos::{LAST_INPUT_INDEX, LAST_OUTPUT_INDEX};
 use crate::rows::{Format, Version};
 use ec_device::{
-    FIRST_INPUT_INDEX, FIRST_OUTPUT_INDEX, LAST_MANAGER, MAX_FMMUS, MAX_MAILBOX_SIZE, MIN_FMMUS,
-    MIN_MAILBOX_SIZE,
+    FIRST_INPUT_INDEX, FIRST_OUTPUT_INDEX, LAST_MANAGER, MAX_FMMUS, MAX_MAILBOX_SIZE, MAX_SLOW,
+    MIN_FMMUS, MIN_MAILBOX_SIZE,
 };
 
 /// A kind of table in a document.
@@ -34,6 +34,8 @@ pub enum Rule {
     Mailbox,
     /// The number and the control byte of a sync manager, in the ranges of `MANAGER`.
     Manager,
+    /// Downloads, the numbers of each in the ranges of `PARAMETER`.
+    Parameters,
     /// Indices of PDOs, each from the first to the second.
     Indices(u16, u16),
     /// PDOs, each with an index from the first to the second.
@@ -65,9 +67,9 @@ const LAST_BIT: u32 = 63;
 pub type Key = (&'static str, Rule, bool);
 
 /// The most keys of a table.
-pub const MAX_KEYS: usize = 14;
+pub const MAX_KEYS: usize = 18;
 
-// The keys that a type has in either format.
+// The keys that a type or a slave has in either format.
 const NAME_KEY: Key = ("name", Rule::Name, true);
 
 const VENDOR_KEY: Key = ("vendor", Rule::Number(0, u32::MAX), true);
@@ -89,6 +91,24 @@ const TXPDO_KEY: Key = (
 );
 
 const LRW_KEY: Key = ("lrw", Rule::Truth, false);
+
+const INIT_KEY: Key = ("init", Rule::Parameters, false);
+
+const TYPE_KEY: Key = ("type", Rule::Name, true);
+
+const OUT_KEY: Key = (
+    "out",
+    Rule::Indices(FIRST_OUTPUT_INDEX, LAST_OUTPUT_INDEX),
+    false,
+);
+
+const IN_KEY: Key = (
+    "in",
+    Rule::Indices(FIRST_INPUT_INDEX, LAST_INPUT_INDEX),
+    false,
+);
+
+const SERIAL_KEY: Key = ("serial", Rule::Number(0, u32::MAX), false);
 
 // The keys of each shape, in the order in which their values are read.
 static DOCUMENT_KEYS: [Key; 6] = [
@@ -128,6 +148,10 @@ static HARDWARE_TYPE_KEYS: [Key; MAX_KEYS] = [
     ("out_manager", Rule::Manager, false),
     ("in_manager", Rule::Manager, false),
     ("firmware", Rule::Truth, false),
+    ("fixed", Rule::Truth, false),
+    INIT_KEY,
+    ("slow", Rule::Number(0, MAX_SLOW as u32), false),
+    ("emergency", Rule::Truth, false),
     (
         "fmmus",
         Rule::Number(MIN_FMMUS as u32, MAX_FMMUS as u32),
@@ -140,22 +164,18 @@ static PDO_KEYS: [Key; 2] = [
     ("entries", Rule::Entries, true),
 ];
 
-static SLAVE_KEYS: [Key; 6] = [
-    ("name", Rule::Name, true),
-    ("type", Rule::Name, true),
-    (
-        "out",
-        Rule::Indices(FIRST_OUTPUT_INDEX, LAST_OUTPUT_INDEX),
-        false,
-    ),
-    (
-        "in",
-        Rule::Indices(FIRST_INPUT_INDEX, LAST_INPUT_INDEX),
-        false,
-    ),
-    ("serial", Rule::Number(0, u32::MAX), false),
+static SLAVE_KEYS: [Key; 7] = [
+    NAME_KEY,
+    TYPE_KEY,
+    OUT_KEY,
+    IN_KEY,
+    SERIAL_KEY,
     ("unit", Rule::Number(0, MAX_UNIT), false),
+    INIT_KEY,
 ];
+
+// Those of a slave of version 1 for hardware.
+static FIRST_SLAVE_KEYS: [Key; 6] = [NAME_KEY, TYPE_KEY, OUT_KEY, IN_KEY, SERIAL_KEY, INIT_KEY];
 
 static VARIABLE_KEYS: [Key; 4] = [
     ("name", Rule::Name, true),
@@ -179,6 +199,9 @@ pub static MAILBOX: [(u32, u32); 4] = [(0, MAX_U16), MAILBOX_SIZES, (0, MAX_U16)
 
 /// The ranges of the numbers of a sync manager: its number, its control byte.
 pub static MANAGER: [(u32, u32); 2] = [(0, LAST_MANAGER as u32), (0, MAX_U8)];
+
+/// The ranges of the numbers of a download but for its value: index, subindex, number of bits, which is 8, 16 or 32.
+pub static PARAMETER: [(u32, u32); 3] = [(0, MAX_U16), (0, MAX_U8), (8, 32)];
 
 /// The ranges of the numbers of a link's bits: first bit of the variable, first bit of the entry, number of bits.
 pub static LINK_BITS: [(u32, u32); 3] = [(0, LAST_BIT), (0, LAST_BIT), (1, MAX_VALUE_BITS)];
@@ -256,12 +279,14 @@ fn variable_keys(format: Format) -> &'static [Key]
     }
 }
 
-/// The keys of a slave; version 1 doesn't have the last, `unit`.
+/// The keys of a slave: version 1 doesn't have `unit`, and a table that isn't for hardware doesn't have `init`.
 fn slave_keys(format: Format) -> &'static [Key]
     ensures { map key_row result.now ≡ keys_of shape.Slave format }
 {
-    match format.version {
-        Version::One => &SLAVE_KEYS[..5],
-        Version::Two => &SLAVE_KEYS,
+    match (format.version, format.hardware) {
+        (Version::One, false) => &SLAVE_KEYS[..5],
+        (Version::Two, false) => &SLAVE_KEYS[..6],
+        (Version::One, true) => &FIRST_SLAVE_KEYS,
+        (Version::Two, true) => &SLAVE_KEYS,
     }
 }

@@ -1,6 +1,6 @@
 //! What the definition of a link table's reading keeps, in the format's own words. Nothing runs here.
 
-ghost use Rattle.ec_table.specs.Laws.{AcceptedIsSound, FaultsHaveTheirPosition, AcceptedElementByElement, DocumentFaultsInOrder, FirstFaultIsReturned, LeftOutIsDefault, WrittenIsRead, ObjectBitsAreCounted, EntriesAreAssigned, EntriesAreFew};
+ghost use Rattle.ec_table.specs.Laws.{AcceptedIsSound, FaultsHaveTheirPosition, AcceptedElementByElement, DocumentFaultsInOrder, FirstFaultIsReturned, LeftOutIsDefault, WrittenIsRead, ObjectBitsAreCounted, EntriesAreAssigned, EntriesAreFew, DownloadsFitTheType};
 
 /// What is accepted has unique names, known references, values in range, and assigned objects of its type
 /// without a double.
@@ -60,4 +60,10 @@ pub fn entries_are_assigned()
 #[tactic(auto, using(crate::proofs::ObjectLemmas::entries_are_few))]
 pub fn entries_are_few()
     ensures { EntriesAreFew }
+{}
+
+/// The downloads to a slave are within the limits of a type, and without hardware there are none.
+#[tactic(auto, using(crate::proofs::InitJoined::downloads_fit))]
+pub fn downloads_fit_the_type()
+    ensures { DownloadsFitTheType }
 {}

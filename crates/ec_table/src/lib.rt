@@ -10,6 +10,7 @@ mod links;
 mod named;
 mod numbers;
 mod or_memory;
+mod parameters;
 mod pdos;
 mod read;
 mod rows;
@@ -20,7 +21,7 @@ mod values;
 mod variables;
 
 pub use crate::fault::{Fault, Position, Section, TableError};
-pub use crate::keys::{ENTRY, Key, LINK_BITS, MAILBOX, MANAGER, Rule, Shape};
+pub use crate::keys::{ENTRY, Key, LINK_BITS, MAILBOX, MANAGER, PARAMETER, Rule, Shape};
 pub use crate::numbers::number_in;
 pub use crate::or_memory::{OrMemory, Refusing};
 pub use crate::read::read_table;

@@ -1,11 +1,11 @@
 //! The rows of a table.
 ghost use Rattle.std.specs.Prelude.{◌≡◌, ◌≤◌, length};
-ghost use Rattle.ec_device.specs.Hardware.{other_name};
+ghost use Rattle.ec_device.specs.Hardware.{is_assignable, other_name};
 ghost use Rattle.ec_table.specs.Contents.{pdos_toward, assigned_toward};
 ghost use Rattle.ec_table.specs.Fields.{full_format};
 
 use arrayvec::ArrayString;
-use ec_device::{Device, Hardware, Mailbox, Pdo};
+use ec_device::{Device, Hardware, Mailbox, Parameter, Pdo};
 use ec_listed::Listed;
 use std::marker::Model;
 
@@ -114,6 +114,8 @@ pub struct TypeRow {
     pub lrw: bool,
     /// What it says of real devices, in a table for hardware.
     pub hardware: Option<Hardware>,
+    /// The downloads that its slaves get before their process data, at most 64; none without a mailbox.
+    pub init: Listed<Parameter>,
 }
 
 impl TypeRow {
@@ -137,6 +139,17 @@ impl TypeRow {
             Some(hardware) => hardware.other_name(start),
         }
     }
+
+    /// Whether its slaves let themselves be assigned: by a mailbox, unless their assignment is fixed.
+    pub fn is_assignable(&self) -> bool
+        ensures { result ≡ is_assignable self.now.mailbox self.now.hardware }
+    {
+        let is_fixed = match &self.hardware {
+            None => false,
+            Some(hardware) => hardware.is_fixed,
+        };
+        self.mailbox.is_some() && !is_fixed
+    }
 }
 
 /// A row of the section `slave`: a slave, of the type at place `type_index`.
@@ -154,6 +167,8 @@ pub struct SlaveRow {
     pub serial: u32,
     /// Its sync unit, 0 to 63; 0 in version 1.
     pub unit: u8,
+    /// The downloads that it gets behind those of its type, at most 64.
+    pub init: Listed<Parameter>,
 }
 
 impl SlaveRow {

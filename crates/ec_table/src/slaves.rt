@@ -5,16 +5,17 @@ ghost use Rattle.ec_table.specs.Pdos.{has_twice, indices_of};
 ghost use Rattle.ec_table.specs.InOrder.{Gives, rows_after};
 ghost use Rattle.ec_table.specs.Names.{is_named};
 ghost use Rattle.ec_table.specs.declared.rows.SlaveRow.{SlaveRow};
-ghost use Rattle.ec_table.specs.Reading.{all_in, assigned_in, same_list, slave_at, slave_element, slave_of_type};
+ghost use Rattle.ec_table.specs.Reading.{all_in, assigned_in, same_list, slave_at, slave_element, slave_of_type, suits};
 
 use crate::fault::{Fault, Position, Section, TableError};
 use crate::fields::{name_in, numbers_in};
 use crate::keys::Shape;
 use crate::named::{Named, NamedRows};
+use crate::parameters::{are_taken, parameters_in};
 use crate::pdos::{has_twice, indices_of, is_index};
 use crate::rows::{Format, Name, ProcessData, SlaveRow, TypeRow};
 use crate::values::values_of;
-use ec_device::Pdo;
+use ec_device::{Parameter, Pdo};
 use ec_listed::Listed;
 use std::alloc::{AllocError, Global};
 use toml::Value;
@@ -34,6 +35,7 @@ pub struct Written {
     pub inputs: Option<Listed<u16>>,
     pub serial: u32,
     pub unit: u8,
+    pub init: Listed<Parameter>,
 }
 
 /// The slaves of the section, in order.
@@ -100,6 +102,7 @@ fn slave_at(
     let inputs = numbers_in(alloc, position, values.at(3), first, last)?;
     let serial = values.number_or_0(position, 4)?;
     let unit = values.number_or_0(position, 5)?;
+    let init = parameters_in(alloc, position, values.at(6))?;
     if is_twice(found.has(&name), &outputs, &inputs) {
         return Err(TableError::Refused(Fault::TwiceNamed(position)));
     }
@@ -108,6 +111,7 @@ fn slave_at(
         inputs,
         serial,
         unit: unit as u8,
+        init,
     };
     slave_of_type(alloc, types, position, name, &type_name, written)
 }
@@ -148,6 +152,7 @@ fn row_of(
       inputs = unwrap_or written.inputs (indices_of process.now.inputs);
       serial = written.serial;
       unit = written.unit;
+      init = written.init;
     }) }
 {
     Ok(SlaveRow {
@@ -157,10 +162,11 @@ fn row_of(
         inputs: written_or_all(alloc, written.inputs, process.inputs.as_slice())?,
         serial: written.serial,
         unit: written.unit,
+        init: written.init,
     })
 }
 
-/// Tests whether the objects that a slave assigns are its type's, and, without a mailbox, all of them in order.
+/// Tests whether the objects that a slave assigns are its type's, and whether the slave suits its type.
 #[tactic(auto, unfolding(crate::specs::Reading::assigned_in))]
 fn test_assigned(position: Position, slave_type: &TypeRow, row: &SlaveRow) -> Result<(), Fault>
     ensures passes { OnOk result (assigned_in position slave_type.now row.now ≡ Ok row.now) }
@@ -174,11 +180,21 @@ fn test_assigned(position: Position, slave_type: &TypeRow, row: &SlaveRow) -> Re
     if !are_among(outputs, all_outputs) || !are_among(inputs, all_inputs) {
         return Err(Fault::UnknownName(position));
     }
-    let are_all = are_indices(outputs, all_outputs) && are_indices(inputs, all_inputs);
-    if slave_type.mailbox.is_none() && !are_all {
+    if !suits(slave_type, row) {
         return Err(Fault::BadValue(position));
     }
     Ok(())
+}
+
+/// Whether a slave that doesn't let itself be assigned has all objects of its type in order, and one without a mailbox gets no
+/// downloads.
+fn suits(slave_type: &TypeRow, row: &SlaveRow) -> bool
+    ensures { result ≡ suits slave_type.now row.now }
+{
+    let process = &slave_type.process;
+    let has_all = are_indices(row.outputs.as_slice(), process.outputs.as_slice())
+        && are_indices(row.inputs.as_slice(), process.inputs.as_slice());
+    (slave_type.is_assignable() || has_all) && are_taken(&slave_type.mailbox, row.init.as_slice())
 }
 
 /// The objects that the element states, else all of the type's in order.

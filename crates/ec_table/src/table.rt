@@ -2,16 +2,17 @@
 ghost use Rattle.std.specs.Prelude.{◌≡◌, ◌==◌, ◌++◌, ◌<◌, ◌≤◌, length, find, All, Some, option_map, false, IfOk, OnOk};
 ghost use Rattle.std.specs.Option.{option_copied};
 ghost use Rattle.ec_device.specs.declared.slave_type.Pdo.{Pdo};
+ghost use Rattle.ec_device.specs.Parameters.{AreParameters};
 ghost use Rattle.ec_device.specs.Types.{IsEntry, IsFace};
 ghost use Rattle.ec_device.specs.Objects.{bits_of, entries_at, assigned_entries};
 ghost use Rattle.ec_table.specs.Contents.{advertised_as, advertised_full};
 ghost use Rattle.ec_table.specs.Sound.{IsSound, IsType, AreTypes, AreSlaves, IsVariable, AreVariables, IsLink};
 ghost use Rattle.ec_table.specs.Numbers.{number_at};
-ghost use Rattle.ec_table.specs.Objects.{type_of, variable_of, slave_of, identity_of, face_of, kind_of, entries_of};
+ghost use Rattle.ec_table.specs.Objects.{type_of, variable_of, slave_of, identity_of, face_of, kind_of, own_init, entries_of};
 
 use crate::numbers::number_in;
 use crate::rows::{Direction, Format, LinkRow, SlaveRow, TypeRow, VariableRow, Version};
-use ec_device::{Entry, Face, Identity, Pdo, SlaveType, copied_pdos};
+use ec_device::{Entry, Face, Identity, Parameter, Pdo, SlaveType, copied_pdos};
 use ec_listed::Listed;
 use std::alloc::{AllocError, Global};
 use std::marker::Model;
@@ -218,8 +219,8 @@ impl Table {
         device.identity(row.serial)
     }
 
-    /// The type of the slave at a place, as a slave has it: with a face if the table is advertised in full. The error says that
-    /// memory was refused.
+    /// The type of the slave at a place, as a slave has it: with the downloads of its type and then its own, and with a face if the
+    /// table is advertised in full. The error says that memory was refused.
     pub fn kind_of(&self, alloc: Global, slave: usize) -> Result<SlaveType, AllocError>
         requires { slave < length self.now.slaves }
         ensures { IfOk result (λ k. kind_of self.now slave ≡ Some k) }
@@ -227,7 +228,9 @@ impl Table {
         let row = self.type_of(slave);
         let outputs = copied_pdos(alloc, row.process.outputs.as_slice())?;
         let inputs = copied_pdos(alloc, row.process.inputs.as_slice())?;
+        let init = self.init_of(alloc, slave, row)?;
         let mut kind = SlaveType::new(
+            alloc,
             row.device,
             row.mailbox,
             row.out_start_inside(),
@@ -236,12 +239,30 @@ impl Table {
             inputs,
             row.lrw,
         );
+        kind.prepare(init);
         if let Some(hardware) = row.hardware {
             kind.describe(hardware);
         } else if self.is_full {
             kind.show(self.face(alloc, slave)?);
         }
         Ok(kind)
+    }
+
+    /// The downloads to the slave at a place: those of its type, which is `row`, and then its own.
+    fn init_of(
+        &self,
+        alloc: Global,
+        slave: usize,
+        row: &TypeRow,
+    ) -> Result<Listed<Parameter>, AllocError>
+        requires place { slave < length self.now.slaves }
+        requires row { type_of self.now slave ≡ Some row.now }
+        requires sound { IsType row.now }
+        ensures value { IfOk result (λ qs. qs ≡ row.now.init ++ own_init self.now slave) }
+        ensures limits { IfOk result (AreParameters row.now.mailbox) }
+    {
+        let own = &self.slaves()[slave];
+        joined(alloc, row.init.as_slice(), own.init.as_slice())
     }
 
     /// The entries of the objects that the slave at a place assigns in one direction, one after another;
@@ -277,6 +298,21 @@ impl Table {
             is_last: slave + 1 == slaves,
         })
     }
+}
+
+/// Downloads, and others behind them.
+fn joined(
+    alloc: Global,
+    first: &[Parameter],
+    second: &[Parameter],
+) -> Result<Listed<Parameter>, AllocError>
+    ensures { IfOk result (λ qs. qs ≡ first.now ++ second.now) }
+{
+    let mut all = Listed::copied(alloc, first)?;
+    for parameter in second {
+        all.push(*parameter)?;
+    }
+    Ok(all)
 }
 
 /// The entries of the PDOs with these indices, one after another.

@@ -13,6 +13,7 @@ use crate::fault::{Fault, Position, Section, TableError};
 use crate::fields::{item_in, name_in, truth_in};
 use crate::keys::{MAILBOX, Shape};
 use crate::named::{Named, NamedRows};
+use crate::parameters::parameters_in;
 use crate::pdos::{have_twice, pdos_in};
 use crate::rows::{Format, Name, ProcessData, TypeRow};
 use crate::values::{Values, values_of};
@@ -87,10 +88,11 @@ fn type_at(
     let process = process_in(alloc, position, &values)?;
     let lrw = truth_in(position, true, values.at(9))?;
     let hardware = hardware_in(format, position, &process, &values)?;
+    let init = parameters_in(alloc, position, values.at(14))?;
     if found.has(&name) || is_twice(&process) {
         return Err(TableError::Refused(Fault::TwiceNamed(position)));
     }
-    if !is_possible(&mailbox, &hardware) {
+    if !is_possible(&mailbox, &hardware, init.as_slice()) {
         return Err(TableError::Refused(Fault::BadValue(position)));
     }
     Ok(TypeRow {
@@ -100,6 +102,7 @@ fn type_at(
         process,
         lrw,
         hardware,
+        init,
     })
 }
 

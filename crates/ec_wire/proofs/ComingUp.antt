@@ -13,12 +13,11 @@ use Rattle.ec_start.specs.declared.phase.NextFrame.{NextFrame}
 use Rattle.ec_start.specs.declared.phase.NextFrame.TheVariants.{Send, Waiting, Ended}
 use Rattle.ec_start.specs.declared.phase.Phase.TheVariants.{Ready}
 use Rattle.ec_start.specs.declared.action.Feed.{Feed}
-use Rattle.ec_start.specs.Scripts.{script}
-use Rattle.ec_start.specs.Feeding.{frames_of}
 use Rattle.ec_start.specs.Running.{StartState, IsStartTaken, asked, asked_by, begun, last_number, next_frame, next_frame_by, sending}
 use Rattle.ec_bringup.specs.Undisturbed.{Rising, turned, ArePlansWith, AreDevices}
 use Rattle.ec_bringup.specs.BringUp.{rising}
-use Rattle.ec_bringup.specs.ComesUp.{IsOnItsWay, IsUpAndWorks}
+use Rattle.ec_bringup.specs.ComesUp.{AllAgree, IsOnItsWay, IsUpAndWorks}
+use Rattle.ec_bringup.specs.Counting.{frames_up}
 use Rattle.ec_bringup.specs.Applied.{Applied, Rests as Idles, Reads, Writes, AreApplied, TurnsTo, Stays}
 use Rattle.ec_bringup.proofs.AllSlaves.Applications.{turns-on}
 use Rattle.ec_bringup.proofs.StartUp.BringUp.{is-sending, turn-kept, turn-made}
@@ -185,45 +184,45 @@ by-answer s t ss mid frame answer a (p ∷ ps) rest more sends spelled h strange
 -- from the k-th turn on
 abbrev FromHere : (ps : List SlavePlan) (fs : List Feed) (from : ℕ) (first : List SlaveState) → (s e : StartState) (w x : WireState) → Type 0
 FromHere ps fs from first s e w x =
-    (k : ℕ) (ss tt : List SlaveState) (sent received : List (List ℕ)) → k ≤ frames_of fs (script ps) → TurnsTo k (rising (begun ps fs from) first) (rising s ss)
-    → has_payloads w.sent ≡ true → has_payloads w.received ≡ true → is_fault w x ≡ false → Carries w x sent received → AreTreated AnyInputs ss sent tt received → IsUpAndWorks ps (from + frames_of fs (script ps)) (rising e tt)
+    (k : ℕ) (ss tt : List SlaveState) (sent received : List (List ℕ)) → k ≤ frames_up ps fs first → TurnsTo k (rising (begun ps fs from) first) (rising s ss)
+    → has_payloads w.sent ≡ true → has_payloads w.received ≡ true → is_fault w x ≡ false → Carries w x sent received → AreTreated AnyInputs ss sent tt received → IsUpAndWorks ps (from + frames_up ps fs first) (rising e tt)
 
 -- a start-up that sends no frame has made all turns
-rests-up : (ps : List SlavePlan) (fs : List Feed) (from k : ℕ) (s e : StartState) (w : WireState) (ss tt : List SlaveState) (sent received : List (List ℕ)) → (k ≡ frames_of fs (script ps) → IsUpAndWorks ps (from + k) (rising s ss))
-    → k ≡ frames_of fs (script ps) → e ≡ s → has_payloads w.sent ≡ true → Carries w w sent received → AreTreated AnyInputs ss sent tt received → IsUpAndWorks ps (from + frames_of fs (script ps)) (rising e tt)
-rests-up ps fs from k s e w ss tt sent received up last same told carried treated =
+rests-up : (ps : List SlavePlan) (fs : List Feed) (first : List SlaveState) (from k : ℕ) (s e : StartState) (w : WireState) (ss tt : List SlaveState) (sent received : List (List ℕ)) → (k ≡ frames_up ps fs first → IsUpAndWorks ps (from + k) (rising s ss))
+    → k ≡ frames_up ps fs first → e ≡ s → has_payloads w.sent ≡ true → Carries w w sent received → AreTreated AnyInputs ss sent tt received → IsUpAndWorks ps (from + frames_up ps fs first) (rising e tt)
+rests-up ps fs first from k s e w ss tt sent received up last same told carried treated =
     let none : sent ≡ [] = went-so w.sent w.sent sent [] told carried.sends (carries-none w).sends in
     let h : AreTreated AnyInputs ss [] tt received = subst (λ (l : List (List ℕ)). AreTreated AnyInputs ss l tt received) none treated in
-    subst (λ (l : List SlaveState). IsUpAndWorks ps (from + frames_of fs (script ps)) (rising e l)) (sym h.0)
-    (subst (λ (x : StartState). IsUpAndWorks ps (from + frames_of fs (script ps)) (rising x ss)) (sym same)
+    subst (λ (l : List SlaveState). IsUpAndWorks ps (from + frames_up ps fs first) (rising e l)) (sym h.0)
+    (subst (λ (x : StartState). IsUpAndWorks ps (from + frames_up ps fs first) (rising x ss)) (sym same)
     (subst (λ (n : ℕ). IsUpAndWorks ps (from + n) (rising s ss)) last (up last)))
 
 -- how far it is
-next-at : (ps : List SlavePlan) (fs : List Feed) (from k : ℕ) (s : StartState) (ss : List SlaveState) → k ≤ frames_of fs (script ps) → from + frames_of fs (script ps) ≤ last_number
-    → (k < frames_of fs (script ps) → IsOnItsWay (from + k) (rising s ss)) → (k ≡ frames_of fs (script ps) → IsUpAndWorks ps (from + k) (rising s ss))
-    → ((k < frames_of fs (script ps)) × (next_frame s ≡ Send)) ⊎ ((k ≡ frames_of fs (script ps)) × (s.phase ≡ Ready))
-next-at ps fs from k s ss most few way up = elim (cases_eq k (frames_of fs (script ps))) [
+next-at : (ps : List SlavePlan) (fs : List Feed) (first : List SlaveState) (from k : ℕ) (s : StartState) (ss : List SlaveState) → k ≤ frames_up ps fs first → from + frames_up ps fs first ≤ last_number
+    → (k < frames_up ps fs first → IsOnItsWay (from + k) (rising s ss)) → (k ≡ frames_up ps fs first → IsUpAndWorks ps (from + k) (rising s ss))
+    → ((k < frames_up ps fs first) × (next_frame s ≡ Send)) ⊎ ((k ≡ frames_up ps fs first) × (s.phase ≡ Ready))
+next-at ps fs first from k s ss most few way up = elim (cases_eq k (frames_up ps fs first)) [
   | inl e ↦ inr (e, (up e).ready)
   | inr ne ↦
-      let l : k < frames_of fs (script ps) = omega (arith, most, ne) in
+      let l : k < frames_up ps fs first = omega (arith, most, ne) in
       inl (l, sends-on (from + k) (rising s ss) (way l) (omega (arith, l, few)))
 ]
 
-pub comes-up-over : (ps : List SlavePlan) (fs : List Feed) → ArePlansWith ps fs → (from : ℕ) (first : List SlaveState) → AreDevices ps first → from + frames_of fs (script ps) ≤ last_number
+pub comes-up-over : (ps : List SlavePlan) (fs : List Feed) → ArePlansWith ps fs → AllAgree ps → (from : ℕ) (first : List SlaveState) → AreDevices ps first → from + frames_up ps fs first ≤ last_number
     → (s e : StartState) (w x : WireState) → IsBroughtUp s w e x → FromHere ps fs from first s e w x
-comes-up-over ps fs plans from first devices few s e w x (Rests _ _ f) k ss tt sent received most turns told_sent told_received fine carried treated =
-    let law = applied_up ps fs plans from first devices k (rising s ss) turns in
-    elim (next-at ps fs from k s ss most few law.0 law.1) [
+comes-up-over ps fs plans agree from first devices few s e w x (Rests _ _ f) k ss tt sent received most turns told_sent told_received fine carried treated =
+    let law = applied_up ps fs plans agree from first devices k (rising s ss) turns in
+    elim (next-at ps fs first from k s ss most few law.0 law.1) [
       | inl n ↦ absurd (send-ended (next_frame s) n.1 f)
-      | inr n ↦ rests-up ps fs from k s (asked s) w ss tt sent received law.1 n.0 (ap (asked_by s) n.1) told_sent carried treated
+      | inr n ↦ rests-up ps fs first from k s (asked s) w ss tt sent received law.1 n.0 (ap (asked_by s) n.1) told_sent carried treated
     ]
-comes-up-over ps fs plans from first devices few s e w x (Waits _ _ f) k ss tt sent received most turns told_sent told_received fine carried treated =
-    let law = applied_up ps fs plans from first devices k (rising s ss) turns in
-    absurd (elim (next-at ps fs from k s ss most few law.0 law.1) [
+comes-up-over ps fs plans agree from first devices few s e w x (Waits _ _ f) k ss tt sent received most turns told_sent told_received fine carried treated =
+    let law = applied_up ps fs plans agree from first devices k (rising s ss) turns in
+    absurd (elim (next-at ps fs first from k s ss most few law.0 law.1) [
       | inl n ↦ send-waiting (next_frame s) n.1 f
       | inr n ↦ ended-waiting (next_frame s) (rests-on s n.1) f
     ])
-comes-up-over ps fs plans from first devices few s e w x (Loses _ _ _ frame f spelled u) k ss tt sent received most turns told_sent told_received fine carried treated =
+comes-up-over ps fs plans agree from first devices few s e w x (Loses _ _ _ frame f spelled u) k ss tt sent received most turns told_sent told_received fine carried treated =
     let got : received ≡ u.foreign = went-so w.received x.received received u.foreign told_received carried.receives u.carried.receives in
     let went : sent ≡ u.frames = went-so w.sent x.sent sent u.frames told_sent carried.sends u.carried.sends in
     let size : length received ≡ length u.foreign = ap length got in
@@ -236,8 +235,8 @@ comes-up-over ps fs plans from first devices few s e w x (Loses _ _ _ frame f sp
             omega (arith, n, size, long))
       ]
     ])
-comes-up-over ps fs plans from first devices few s e w x (Goes _ t _ _ v _ turn up) k ss tt sent received most turns told_sent told_received fine carried treated =
-    let law = applied_up ps fs plans from first devices k (rising s ss) turns in
+comes-up-over ps fs plans agree from first devices few s e w x (Goes _ t _ _ v _ turn up) k ss tt sent received most turns told_sent told_received fine carried treated =
+    let law = applied_up ps fs plans agree from first devices k (rising s ss) turns in
     let a = turn.answered in
     let r = has-carried t e v x up in
     let all = carries-then w v x (turn.frame ∷ []) (a.foreign ++ a.answer ∷ []) r.sent r.received a.carried r.carried in
@@ -247,12 +246,12 @@ comes-up-over ps fs plans from first devices few s e w x (Goes _ t _ _ v _ turn 
     let one = answered-at s ss h.0 turn.frame h.1 turn.is_next h.3 in
     let split : (a.foreign ++ a.answer ∷ []) ++ r.received ≡ one.answer ∷ h.2 = sym got ∙ (h.5 ∙ ap (λ (l : List (List ℕ)). l ++ h.2) one.only) in
     let made = by-answer s t ss h.0 turn.frame a.answer one.answer a.foreign r.received h.2 turn.sends turn.is_next one.is a.strange a.kept split in
-    let there : k < frames_of fs (script ps) = elim (next-at ps fs from k s ss most few law.0 law.1) [
+    let there : k < frames_up ps fs first = elim (next-at ps fs first from k s ss most few law.0 law.1) [
       | inl n ↦ n.0
       | inr n ↦ absurd (send-ended (next_frame s) turn.sends (rests-on s n.1))
     ] in
     let stays : v.failed ≡ w.failed = (let p = a.carried.faults in let q = r.carried.faults in let z = fine-same w x fine carried.faults in omega (arith, p, q, z)) in
-    comes-up-over ps fs plans from first devices few t e v x up (suc k) h.0 tt r.sent r.received there
+    comes-up-over ps fs plans agree from first devices few t e v x up (suc k) h.0 tt r.sent r.received there
     (subst (λ (y : StartState). TurnsTo (suc k) (rising (begun ps fs from) first) (rising y h.0)) (sym made.start) (turns-on k (rising (begun ps fs from) first) (rising s ss) h.0 turns made.applied))
     (still-told w.sent v.sent (turn.frame ∷ []) told_sent a.carried.sends)
     (still-told w.received v.received (a.foreign ++ a.answer ∷ []) told_received a.carried.receives)
@@ -261,7 +260,7 @@ comes-up-over ps fs plans from first devices few s e w x (Goes _ t _ _ v _ turn 
 
 -- A new start-up comes up.
 pub comes_up_over : (s e : StartState) (w x : WireState) → IsBroughtUp s w e x → ComesUpOver s e w x
-comes_up_over s e w x up ps fs from before after plans new devices few past =
-    comes-up-over ps fs plans from before devices few s e w x up 0 before after past.sent past.received (omega arith)
+comes_up_over s e w x up ps fs from before after plans agree new devices few past =
+    comes-up-over ps fs plans agree from before devices few s e w x up 0 before after past.sent past.received (omega arith)
     (subst (λ (y : StartState). TurnsTo 0 (rising (begun ps fs from) before) (rising y before)) (sym new) (Stays (rising (begun ps fs from) before)))
     past.sent_is_known past.received_is_known past.fine past.carried past.treated

@@ -10,7 +10,7 @@ use Rattle.ec_start.specs.declared.phase.NextFrame.{NextFrame}
 use Rattle.ec_start.specs.declared.phase.NextFrame.TheVariants.{Send, Waiting, Ended}
 use Rattle.ec_start.specs.declared.error.StartError.TheVariants.{TooSlow, NumbersSpent}
 use Rattle.ec_start.specs.declared.verdict.Verdict.{Verdict}
-use Rattle.ec_start.specs.declared.verdict.Verdict.TheVariants.{Next, Word, Fed, Again, Fails}
+use Rattle.ec_start.specs.declared.verdict.Verdict.TheVariants.{Next, Word, Fed, Again, Aside, Fails}
 use Rattle.ec_start.specs.Verdicts.{verdict}
 use Rattle.ec_start.specs.Running.{StartState, Shape, shape, IsStartTaken, action_of, asked, asked_by, next_frame, next_frame_by, given_up, given_up_by, is_ended, judged, last_number, second, sending, taken, type_of}
 use Rattle.ec_start.specs.Laws.{HasSamePlan}
@@ -29,6 +29,7 @@ judged-next s Next = refl
 judged-next s (Word value) = refl
 judged-next s Fed = refl
 judged-next s Again = again-next s (s.polls + 1 == 1000)
+judged-next s (Aside heard) = again-next (record s { heard = Some heard }) (s.polls + 1 == 1000)
 judged-next s (Fails f) = refl
 
 taken-next : (s : StartState) (d : Datagram) → (taken s d).next ≡ s.next
@@ -115,6 +116,7 @@ judged-plan s Next = record { plan = refl; feeds = refl }
 judged-plan s (Word value) = record { plan = refl; feeds = refl }
 judged-plan s Fed = record { plan = refl; feeds = refl }
 judged-plan s Again = again-plan s (s.polls + 1 == 1000)
+judged-plan s (Aside heard) = let h = again-plan (record s { heard = Some heard }) (s.polls + 1 == 1000) in record { plan = h.plan; feeds = h.feeds }
 judged-plan s (Fails f) = record { plan = refl; feeds = refl }
 
 kept-plan : (s t : StartState) (payload : List ℕ) → IsStartTaken s payload true t → HasSamePlan s t

@@ -3,12 +3,11 @@ use Rattle.std.specs.Prelude.{ℕ, ◌+◌, ◌≤◌, ◌≡◌, List, true, fa
 use Rattle.ec_slave.specs.State.{SlaveState}
 use Rattle.ec_link.specs.declared.settings.SlavePlan.{SlavePlan}
 use Rattle.ec_start.specs.declared.action.Feed.{Feed}
-use Rattle.ec_start.specs.Scripts.{script}
-use Rattle.ec_start.specs.Feeding.{frames_of}
 use Rattle.ec_start.specs.Running.{StartState, begun, last_number}
 use Rattle.ec_bringup.specs.Undisturbed.{ArePlansWith, AreDevices}
 use Rattle.ec_bringup.specs.BringUp.{rising}
-use Rattle.ec_bringup.specs.ComesUp.{IsUpAndWorks}
+use Rattle.ec_bringup.specs.ComesUp.{AllAgree, IsUpAndWorks}
+use Rattle.ec_bringup.specs.Counting.{frames_up}
 use Rattle.ec_wire.specs.Wires.{WireState, Carries, is_fault, has_payloads}
 use Rattle.ec_wire.specs.Segments.{AreTreated}
 
@@ -27,9 +26,9 @@ pub record IsCarriedPast (old new : WireState) (before after : List SlaveState) 
   pub carried : Carries old new sent received
   pub treated : AreTreated AnyInputs before sent after received
 
--- Over such a wire, with devices of its types in any state at the other end, a new start-up of a complete plan ends Ready. It sends
--- `frames_of` its script, and then every slave works as planned.
+-- Over such a wire, with devices of its types in any state at the other end, a new start-up of a complete plan ends Ready, if the
+-- types' parameters agree with it. It sends `frames_up` frames, and then every slave works as planned.
 abbrev pub ComesUpOver : (s e : StartState) (old new : WireState) → Type 0
 ComesUpOver s e old new =
-    (ps : List SlavePlan) (fs : List Feed) (from : ℕ) (before after : List SlaveState) → ArePlansWith ps fs → s ≡ begun ps fs from → AreDevices ps before → from + frames_of fs (script ps) ≤ last_number
-    → IsCarriedPast old new before after → IsUpAndWorks ps (from + frames_of fs (script ps)) (rising e after)
+    (ps : List SlavePlan) (fs : List Feed) (from : ℕ) (before after : List SlaveState) → ArePlansWith ps fs → AllAgree ps → s ≡ begun ps fs from → AreDevices ps before → from + frames_up ps fs before ≤ last_number
+    → IsCarriedPast old new before after → IsUpAndWorks ps (from + frames_up ps fs before) (rising e after)

@@ -65,9 +65,11 @@ pub use Rattle.ec_start.specs.declared.action.Feed.{Feed}
 pub use Rattle.ec_start.specs.declared.action.Action.{Action}
 pub use Rattle.ec_start.specs.Running.{is_fed}
 unfoldable pub use Rattle.ec_start.specs.Feeding.{feeds_of}
-pub use Rattle.ec_start.specs.Feeding.{feeds_from, frames_of}
+pub use Rattle.ec_start.specs.Feeding.{feeds_from}
 pub use Rattle.ec_start.specs.Scripts.{is_hardware}
 pub use Rattle.ec_start.specs.Laws.{HasSamePlan}
+pub use Rattle.ec_bringup.specs.Counting.{frames_up}
+pub use Rattle.ec_bringup.proofs.StartUp.FewFrames.{frames-few}
 pub use Rattle.ec_bringup.specs.Instants.{Feeding}
 pub use Rattle.ec_bringup.specs.Fed.{AreFeedsOf}
 pub use Rattle.ec_bringup.proofs.Script.FeedsOfPlans.{parts_can_be_fed}
@@ -95,7 +97,7 @@ pub use Rattle.ec_world.specs.Headline.{HeadlineShows, Says, IsMade, IsBegun as 
 pub use Rattle.ec_world.specs.Held.{AreFrames, cycle_frames, AreOfPlan, IsAnswered, IsTakenIn, IsHandedIn}
 pub use Rattle.ec_world.specs.Laws.{IsRun, BringsWord, notes_round, SlavesFrom, RoundTrip, word_past, in_op, CycleLaw, StepsRefine, RunsRefine, RunsJoin, StepRefines, IsUnstopped, UnstoppedLaw}
 pub use Rattle.ec_world.specs.Lengths.{IsOfLength}
-pub use Rattle.ec_world.specs.NewWorld.{IsTurn, AreTurns, BringUp, IsToStart, IsBroughtUp, NewLaw, MachineLaw, rising_of, IsRest, Passes as NewWorldPasses, Returns as NewWorldReturns, Serves, Ends, servings, TurnLaw}
+pub use Rattle.ec_world.specs.NewWorld.{IsTurn, AreTurns, frames_to_ready, BringUp, IsToStart, IsBroughtUp, NewLaw, MachineLaw, rising_of, IsRest, Passes as NewWorldPasses, Returns as NewWorldReturns, Serves, Ends, servings, TurnLaw}
 pub use Rattle.ec_world.specs.Plain.{Plain, PlainSlave, Health, Working, Faulted, Reset, plain_slave, no_plain_slave, is_working, failing, restarting, at_slave, is_reset, got_byte, PlainFrame, Cycle, unit_full, step, run, frame_at, filled, new_frames, progress_of, moved, keeping, with_note, met_note, all_progress, is_older, lets_by, may_pass, may_return, Note, Other, Short, Full, is_full, all_full, noted_bit, notes_of_part, taken_bit, inputs_taken, linked_outputs, with_slot, giving, met_slave, passing, losing, taking, setting, beginning, closing, Closed, returning}
 pub use Rattle.ec_world.specs.Promises.{IsBegun, IsClosedAs, IsCounted, FallsShort, QuietLaw, unit_of_slave, is_of_unit, holds_of_unit, still_comes, is_awaited, disturbs, IsNoted, IsMissed, NotBack, FellShort, IsNotedAt, IsQuiet as PromisesIsQuiet, AreLinked, SnapshotsLaw, WorkingLaw, has_outputs_for, IsPublished, OutputsLaw, NotesLaw, InputsLaw, PublishedLaw, TakenLaw, HasNoFrame}
 pub use Rattle.ec_world.specs.Rising.{Rising, SlotsHold, starting_of, IsInSlot, IsFit}

@@ -21,7 +21,7 @@ said_by w s = status_word (slave_of w s).al
 
 -- in OP without error
 abbrev pub in_op : Al
-in_op = record { state = Op; error = false; code = 0; requested = false }
+in_op = record { state = Op; error = false; code = 0; requested = false; waited = 0 }
 
 -- the word is what slave s said as the frame of part k, of the cycle with this number, passed it
 pub record IsHeard (old : WorldState) (events : List Event) (new : WorldState) (number k s word : ℕ) : Type 0 where

@@ -1,6 +1,6 @@
 -- When a slave refines a plain slave: in OP with what the start-up wrote, fallen back to SAFEOP by a fault, or as the power
 -- comes on (ETG.1000.6, "EtherCAT state machine").
-use Rattle.std.specs.Prelude.{ℕ, ◌+◌, ◌≡◌, map, true, false, None}
+use Rattle.std.specs.Prelude.{ℕ, ◌+◌, ◌≡◌, ◌≢◌, map, true, false, None}
 use Rattle.ec_bits.specs.Bits.{bytes_of_bits}
 use Rattle.ec_al.specs.declared.state.State.TheVariants.{SafeOp, Op}
 use Rattle.ec_slave.specs.State.{SlaveState, manager_at, station_of, fmmus, power_on}
@@ -18,11 +18,11 @@ pub record Holds (i : ℕ) (p : SlavePlan) (s : SlaveState) : Type 0 where
   pub outputs : assigned s.outs ≡ p.outputs
   pub inputs : assigned s.ins ≡ p.inputs
 
--- no AL request, no SII read and no mailbox message waits
+-- no AL request, no SII read and no message for it waits; one that it sent may lie in sync manager 1
 pub record IsQuiet (s : SlaveState) : Type 0 where
   pub no_request : s.al.requested ≡ false
   pub no_read : s.sii.busy ≡ false
-  pub no_message : (n : ℕ) → (manager_at s.managers n).mail ≡ None
+  pub no_message : (n : ℕ) → n ≢ 1 → (manager_at s.managers n).mail ≡ None
 
 -- sync managers 2 and 3 hold the outputs and the inputs, each as long as its bits in whole bytes
 pub record HoldsData (p : SlavePlan) (s : SlaveState) (q : PlainSlave) : Type 0 where

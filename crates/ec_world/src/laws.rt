@@ -117,8 +117,8 @@ pub fn compiled_runs()
     ensures { CompiledLaw }
 {}
 
-/// A start-up may begin in a new world of a table that the compiler accepts, with devices of its types. It may also begin in
-/// the world of a machine, whose slaves are the table's and of its types.
+/// A start-up may begin in a new world of a table that the compiler accepts, with devices of its types, if their parameters agree
+/// with what the plan assigns. It may also begin in the world of a machine, whose slaves are the table's and of its types.
 pub fn new_worlds_may_start()
     ensures devices { NewLaw }
     ensures machine { MachineLaw }

@@ -140,16 +140,17 @@ impl<'p> World<'p> {
     /// If the world refines a plain state, and no `Stop` is made, it ends in one that refines the run of the plain machine, of as
     /// many events. A new world shows nothing until its start-up is Ready, and so does a stopped one. With the event that makes it
     /// so, it refines a plain state in which each slave that isn't in OP had a fault or a reset since that start-up began. Then it
-    /// refines the run of the plain machine, until it is stopped. If nothing disturbs it, a start-up is Ready after as many frames
-    /// as it has steps. This holds for a new world of devices of its table's types, and for one that was stopped, or whose last
-    /// start-up failed, and that has no frame on its way. Each event that is made while the start-up is Ready does what `step`
-    /// says of it. The plan stays.
+    /// refines the run of the plain machine, until it is stopped. If nothing disturbs it, a start-up is Ready after
+    /// `frames_to_ready` frames: one for each action, one for each part before a frame about OP, and the further polls of slow
+    /// slaves. This holds for a new world of devices of its table's types, whose parameters agree with what the plan assigns, and
+    /// for one that was stopped, or whose last start-up failed, and that has no frame on its way. Each event that is made while the
+    /// start-up is Ready does what `step` says of it. The plan stays.
     pub fn run(&mut self, events: &[Event]) -> usize
         ensures steps { IsRun self.old events.now self.new result }
         ensures plan { self.new.plan ≡ self.old.plan }
         ensures refines { RunRefines self.old events.now self.new result }
         ensures whole { (t : Contents) (identities : List Identity) → IsNew t identities self.old → RunOutcome self.old events.now self.new result (no_trouble self.old) }
-        ensures up { (t : Contents) → IsToStart t self.old → BringUp t events.now → IsBroughtUp t self.old events.now self.new result }
+        ensures up { (t : Contents) → IsToStart t self.old → BringUp t self.old events.now → IsBroughtUp t self.old events.now self.new result }
         ensures headline { (t : Contents) (identities : List Identity) (first : WorldState) (past : List Event) (count : ℕ) → IsNew t identities first → IsRun first past self.old count → EachIsPromised t first past self.old events.now self.new }
     {
         self.is_sound();

@@ -1,3 +1,4 @@
 //! Refusals, and the explanation of each.
 mod machine;
+mod real;
 mod started;

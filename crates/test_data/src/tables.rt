@@ -48,6 +48,25 @@ struct Kind {
     is_hardware: bool,
 }
 
+/// What the rest of a slave depends on that its type says of real devices.
+#[derive(Clone, Copy, Drop)]
+struct Real {
+    /// Whether its outputs begin in the register of the pins.
+    has_pins: bool,
+    /// Whether it takes downloads.
+    has_mailbox: bool,
+}
+
+impl Real {
+    /// Of a type that says nothing.
+    fn none() -> Real {
+        Real {
+            has_pins: false,
+            has_mailbox: false,
+        }
+    }
+}
+
 /// The text of a random link table of up to five slaves, of either version, in up to three units. Its slaves are with and without
 /// a mailbox, outputs, inputs and LRW. It ends with a line feed, or is empty. The error says that memory was refused.
 pub fn random_table(alloc: Global, random: &mut Random) -> Result<String, AllocError> {
@@ -55,7 +74,8 @@ pub fn random_table(alloc: Global, random: &mut Random) -> Result<String, AllocE
 }
 
 /// The text of a random link table for hardware: slaves as those of `random_table`, of types that have managers, control bytes and
-/// FMMUs of their own, with and without firmware, a revision and outputs in the register of the pins. Some variables have a sign.
+/// FMMUs of their own, with and without firmware, a revision and outputs in the register of the pins. Those with a mailbox may have
+/// a fixed assignment, downloads, and slaves that decide late or send emergencies. Some variables have a sign.
 pub fn random_hardware_table(alloc: Global, random: &mut Random) -> Result<String, AllocError> {
     table_of(alloc, random, true)
 }
@@ -89,19 +109,22 @@ fn write_slave(
     slave: u32,
     kind: Kind,
 ) -> Result<(), AllocError> {
-    let has_pins = if kind.is_hardware {
+    let real = if kind.is_hardware {
         write_real_type(random, text, slave)?
     } else {
         write_type(random, text, slave)?;
-        false
+        Real::none()
     };
-    let outputs = if has_pins { &PINS } else { &OUTPUTS };
+    let outputs = if real.has_pins { &PINS } else { &OUTPUTS };
     write_objects(random, text, links, outputs, slave, kind)?;
     write_objects(random, text, links, &INPUTS, slave, kind)?;
     writeln!(text, "[[slave]]\nname = \"s{slave}\"\ntype = \"t{slave}\"")?;
     if kind.has_units {
         let unit = random.below(3);
         writeln!(text, "unit = {unit}")?;
+    }
+    if real.has_mailbox {
+        write_init(random, text)?;
     }
     Ok(())
 }
@@ -121,8 +144,8 @@ fn write_type(random: &mut Random, text: &mut String, slave: u32) -> Result<(), 
     Ok(())
 }
 
-/// The head of a slave's type for hardware. Returns whether its outputs are pins.
-fn write_real_type(random: &mut Random, text: &mut String, slave: u32) -> Result<bool, AllocError> {
+/// The head of a slave's type for hardware.
+fn write_real_type(random: &mut Random, text: &mut String, slave: u32) -> Result<Real, AllocError> {
     let (product, is_whole) = (random.below(20), random.in_hundred(75));
     writeln!(
         text,
@@ -132,19 +155,51 @@ fn write_real_type(random: &mut Random, text: &mut String, slave: u32) -> Result
         let revision = random.below(20);
         writeln!(text, "revision = {revision}")?;
     }
-    write_managers(random, text)?;
+    let has_mailbox = write_managers(random, text)?;
+    if has_mailbox {
+        write_manner(random, text)?;
+        write_init(random, text)?;
+    }
     let fmmus = 2 + random.below(3);
     writeln!(text, "fmmus = {fmmus}\nin_start = 0x1400")?;
     let has_pins = random.in_hundred(30);
     let out_start = if has_pins { 0x0F00u32 } else { 0x1100 };
     writeln!(text, "out_start = {out_start}")?;
-    Ok(has_pins)
+    Ok(Real {
+        has_pins,
+        has_mailbox,
+    })
+}
+
+/// How slaves of a type with a mailbox behave: whether their assignment is fixed, how late they decide, and whether they send
+/// emergencies.
+fn write_manner(random: &mut Random, text: &mut String) -> Result<(), AllocError> {
+    let (is_fixed, has_emergency) = (random.in_hundred(30), random.in_hundred(30));
+    let slow = random.below(4);
+    writeln!(
+        text,
+        "fixed = {is_fixed}\nslow = {slow}\nemergency = {has_emergency}"
+    )
+}
+
+/// Up to five downloads of 8, 16 or 32 bits, each to one of a few objects, which has one size; some values are negative.
+fn write_init(random: &mut Random, text: &mut String) -> Result<(), AllocError> {
+    write!(text, "init = [")?;
+    for _ in 0..random.below(6) {
+        let (index, sub) = (0x2000 + random.below(4), random.below(4));
+        let (bits, value) = (8u32 << (sub % 3), random.below(128));
+        let sign = if random.in_hundred(30) { "-" } else { "" };
+        write!(text, "[{index}, {sub}, {bits}, {sign}{value}], ")?;
+    }
+    writeln!(text, "]")
 }
 
 /// The mailbox, if any, and the managers of the process data of a type for hardware. One without a mailbox may lack firmware.
-fn write_managers(random: &mut Random, text: &mut String) -> Result<(), AllocError> {
+/// Returns whether there is a mailbox.
+fn write_managers(random: &mut Random, text: &mut String) -> Result<bool, AllocError> {
     let (out_control, in_control) = (16 * random.below(16) + 4, 16 * random.below(16));
-    let (first, second) = if random.in_hundred(30) {
+    let has_mailbox = random.in_hundred(30);
+    let (first, second) = if has_mailbox {
         writeln!(text, "mailbox = [0x1000, 64, 0x1080, 64]")?;
         let first = 2 + random.below(2);
         (first, 5 - first)
@@ -157,7 +212,8 @@ fn write_managers(random: &mut Random, text: &mut String) -> Result<(), AllocErr
     writeln!(
         text,
         "out_manager = [{first}, {out_control}]\nin_manager = [{second}, {in_control}]"
-    )
+    )?;
+    Ok(has_mailbox)
 }
 
 /// The objects of a slave in a direction: no process data object, or one with up to three entries, of which most are linked.

@@ -38,6 +38,8 @@ enum Kind {
     Mixed,
     /// The same of a type of real devices.
     Valve,
+    /// The same of a drive.
+    Drive,
     /// One of a type of real devices that has no firmware, 8 bits of outputs and 8 bits of inputs.
     Lamps,
 }
@@ -48,6 +50,7 @@ fn slave_of(rt: &(impl AllocGlobal + Abort), kind: Kind) -> Result<Slave, AllocE
         Kind::Plain => plain_slave(rt.alloc()),
         Kind::Mixed => slave_in(rt, "mixed - 128"),
         Kind::Valve => real_slave(rt, "mixed"),
+        Kind::Drive => real_slave(rt, "drive"),
         Kind::Lamps => real_slave(rt, "lamps"),
     }
 }
@@ -230,7 +233,7 @@ fn slaves_in_init(rt: HostRuntime) {
 /// A slave without objects whose type takes no part in LRW.
 fn slave_apart(alloc: Global) -> Result<Slave, AllocError> {
     let (outputs, inputs) = (Listed::new(alloc), Listed::new(alloc));
-    let kind = SlaveType::new(IDENTITY.device(), None, 0, 0, outputs, inputs, false);
+    let kind = SlaveType::new(alloc, IDENTITY.device(), None, 0, 0, outputs, inputs, false);
     Slave::new(alloc, kind, IDENTITY)
 }
 

@@ -5,11 +5,11 @@ use std::process::Abort;
 
 /// What is done to a state machine by its word, the control word of a request, whether it was taken, and the status word and the
 /// status code afterwards. `starts` and `resets` are power-on; `asks` is a request whose checks all pass, `fails` one whose checks all
-/// fail, and `lacks_inputs` one where that of the inputs alone fails; `faults` is a fault of the application, which counts only in OP;
-/// `copies` is the step of a device without firmware.
+/// fail, and `lacks_inputs` one where that of the inputs alone fails; `waits` is a request that a step lets wait, and `decides` a step
+/// that decides it; `faults` is a fault of the application, which counts only in OP; `copies` is the step of a device without firmware.
 type Step = (&'static str, u16, bool, u16, u16);
 
-const STEPS: [Step; 29] = [
+const STEPS: [Step; 32] = [
     // INIT refuses what skips a state.
     ("starts", 0x0000, true, 0x0001, 0x0000),
     ("asks", 0x0004, true, 0x0011, 0x0011),
@@ -44,6 +44,10 @@ const STEPS: [Step; 29] = [
     ("starts", 0x0000, true, 0x0001, 0x0000),
     ("asks", 0x0002, true, 0x0002, 0x0000),
     ("lacks_inputs", 0x0004, true, 0x0012, 0x001E),
+    // A step of slow firmware shows nothing of the request, and a later one decides it.
+    ("starts", 0x0000, true, 0x0001, 0x0000),
+    ("waits", 0x0002, true, 0x0001, 0x0000),
+    ("decides", 0x0002, true, 0x0002, 0x0000),
 ];
 
 /// The checks of a request by its word.
@@ -62,6 +66,11 @@ fn take_step(rt: &impl Abort, al: &mut Al, word: &str, control: u16) -> bool {
         "resets" => al.reset(),
         "copies" => al.copy(control),
         "faults" => return al.fault(),
+        "waits" => {
+            al.request();
+            al.wait();
+        }
+        "decides" => al.step(control, checks_of("asks")),
         _ => {
             expect(rt, matches!(word, "asks" | "fails" | "lacks_inputs"), word);
             al.request();

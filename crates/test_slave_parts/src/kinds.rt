@@ -43,7 +43,7 @@ pub(crate) fn pdos_of(rt: &(impl AllocGlobal + Abort), rows: Pdos<'_>) -> Listed
 
 /// The type of a slave with mailboxes and these PDOs. The output manager lies at 0x1100.
 fn kind_of(
-    rt: &impl Abort,
+    rt: &(impl AllocGlobal + Abort),
     outputs: Listed<Pdo>,
     inputs: Listed<Pdo>,
     in_start: u16,
@@ -52,7 +52,16 @@ fn kind_of(
     let mailbox = Some(MAILBOX);
     let fits = SlaveType::is_within_limits(mailbox, outputs.as_slice(), inputs.as_slice());
     expect(rt, fits, "the limits of a type");
-    SlaveType::new(DEVICE, mailbox, 0x1100, in_start, outputs, inputs, lrw)
+    SlaveType::new(
+        rt.alloc(),
+        DEVICE,
+        mailbox,
+        0x1100,
+        in_start,
+        outputs,
+        inputs,
+        lrw,
+    )
 }
 
 /// The same of rows.

@@ -1,18 +1,19 @@
 -- A frame that feeds a part, past all slaves of an undisturbed start-up: it counts as it is expected to, each slave stands where it
 -- stood, and the outputs that it wrote are awaited no more.
-use Rattle.ec_bringup.proofs.Words.{ℕ, zero, suc, ◌+◌, ◌*◌, ◌%◌, ◌<◌, ◌≤◌, ◌≡◌, ◌&&◌, Bool, true, false, Option, Some, None, refl, sym, ◌∙◌, ap, subst, inl, inr, arith, if◌then◌else◌, List, [], ◌∷◌, length, map, get_or, set, get_or-set_same, slice_get, both_ways, cases_eq, eq-eqb, if_true, if_false, Hardware, SlaveKind, SyncManager, no_manager, manager_at, awaiting, SlaveState, Al, Sii, State, Init, PreOp, SafeOp, Op, Datagram, IsDatagram, slave_met, datagram_met, meets-keeps, served, settles, SlavePlan, Feed, FeedPart, datagram_of, verdict, Fed, Action, AskState, AwaitState, Config, Stage, Up, Stays, Stands, IsUpAt, planned, span_of_feed, IsFeedOf, IsFeedAt, IsLeft, with_outputs_written, all_passed, all_met, is_fed, is_op, is_awaiting, is_safeop, WantedDevice, Device, Buffer, Applied, Rests, Reads, Writes, from_bool}
+use Rattle.ec_bringup.proofs.Words.{ℕ, zero, suc, ◌+◌, ◌*◌, ◌%◌, ◌<◌, ◌≤◌, ◌≡◌, Bool, true, false, Some, refl, sym, ◌∙◌, ap, subst, inl, inr, arith, if◌then◌else◌, List, [], ◌∷◌, length, map, get_or, set, get_or-set_same, slice_get, both_ways, cases_eq, eq-eqb, if_true, SlaveKind, SyncManager, no_manager, manager_at, awaiting, SlaveState, Al, Sii, Init, PreOp, SafeOp, Op, Datagram, IsDatagram, slave_met, datagram_met, meets-keeps, served, settles, SlavePlan, Feed, FeedPart, datagram_of, verdict, Fed, Action, AskState, AwaitState, Config, Stage, Up, Stays, Stands, IsUpAt, planned, span_of_feed, IsFeedOf, IsFeedAt, IsLeft, with_outputs_written, all_passed, all_met, is_fed, Fits, Rise, Falls, Climbs, IsAtInit, WantedDevice, Device, Buffer, Applied, Rests, Reads, Writes, from_bool}
 use Rattle.ec_fmmu.specs.Areas.{Spans}
 use Rattle.ec_link.specs.Meaning.{area_of}
 use Rattle.ec_link.specs.Interface.{has_outs, has_ins}
 use Rattle.ec_bringup.specs.Fed.{IsPredicted, IsCountedIn, Within, Outside, sum_up}
 use Rattle.ec_bringup.proofs.OneFrame.FeedLaw.{FeedGoes, goes, feed_law}
-use Rattle.ec_bringup.proofs.OneFrame.Commands.{IsThere, init-settled}
+use Rattle.ec_bringup.proofs.OneFrame.OtherSlaves.{IsFor, ForAwaitState}
 use Rattle.ec_bringup.proofs.OneSlave.Dry.{dry-at-met, dry-at-served}
 use Rattle.ec_bringup.proofs.OneSlave.MailboxServed.{stands-served}
 use Rattle.ec_bringup.proofs.OneSlave.AwaitedKept.{awaited-kept, not-gone}
-use Rattle.ec_bringup.proofs.Script.FedSteps.{HasAllSet}
+use Rattle.ec_bringup.proofs.Script.FedSteps.{HasAllSet, IsRunning}
 use Rattle.ec_bringup.proofs.StartUp.Keeps.{left-stands}
-use Rattle.ec_bringup.proofs.AllSlaves.NextAction.{Sure, reached-of}
+use Rattle.ec_bringup.proofs.AllSlaves.Delays.{IsAskedInit, reached-of}
+use Rattle.ec_bringup.proofs.AllSlaves.NextAction.{Sure, Bless, climbs-met, climbs-served}
 use Rattle.ec_bringup.proofs.AllSlaves.FramePasses.{Each, spelled-on}
 use Rattle.ec_bringup.proofs.AllSlaves.Applications.{Stood, with_buffer}
 
@@ -75,57 +76,43 @@ left-sii : (s t : SlaveState) → IsLeft s t → t.sii ≡ s.sii
 left-sii s t (inl e) = ap (λ (x : SlaveState). x.sii) e
 left-sii s t (inr e) = ap (λ (x : SlaveState). x.sii) e
 
--- a slave in OP without a request stays there
-there-served : (s : SlaveState) → IsThere Op s → IsThere Op (served s)
-there-served s h =
-    let q : (served s).al ≡ s.al = (settles s).al (not-awaiting s.kind.hardware) ∙ if_false _ _ _ h.no_request in
-    record { state_is = ap (λ (x : Al). x.state) q ∙ h.state_is; no_error = ap (λ (x : Al). x.error) q ∙ h.no_error; no_request = ap (λ (x : Al). x.requested) q ∙ h.no_request }
-  where
-    off : (a b c : Bool) → b ≡ false → (a && (b && c)) ≡ false
-    off true true c e = absurd (both_ways true e refl)
-    off true false c e = refl
-    off false b c e = refl
-
-    not-awaiting : (o : Option Hardware) → is_awaiting o s ≡ false
-    not-awaiting None = refl
-    not-awaiting (Some w) = off w.has_firmware (is_safeop s.al.state) _ (ap is_safeop h.state_is)
+-- no slave that parts are fed for is in INIT
+running-high : (r : Rise) → IsRunning r → IsAtInit r → ⊥
+running-high Falls run at = run
+running-high (Stays Init) run at = run
+running-high (Stays PreOp) run at = run
+running-high (Stays SafeOp) run at = at
+running-high (Stays Op) run at = at
+running-high (Climbs from to) run at = at
 
 -- what is shown before a step that is fed is shown still
-sure-fed : (kind : SlaveKind) (i : ℕ) (a : Action) (s t : SlaveState) → is_fed a ≡ true → t.al ≡ s.al → Sure kind i a s → Sure kind i a (served t)
-sure-fed kind i (AskState x to) s t f e h = λ q. init-settled t
-sure-fed kind i (AwaitState x to) s t f e h = λ q.
-    let g : IsThere to s = h q in
-    let o : to ≡ Op = op-state to f in
-    subst (λ (y : State). IsThere y (served t)) (sym o) (there-served t (record {
-      state_is = ap (λ (x : Al). x.state) e ∙ (g.state_is ∙ o);
-      no_error = ap (λ (x : Al). x.error) e ∙ g.no_error;
-      no_request = ap (λ (x : Al). x.requested) e ∙ g.no_request;
-    }))
-  where
-    op-state : (y : State) → is_op y ≡ true → y ≡ Op
-    op-state Op z = refl
-    op-state Init z = absurd (both_ways false refl z)
-    op-state PreOp z = absurd (both_ways false refl z)
-    op-state SafeOp z = absurd (both_ways false refl z)
-sure-fed kind i _ s t f e h = absurd (both_ways false refl f)
+sure-fed : (kind : SlaveKind) (i : ℕ) (st : Stage) (x : Al) (more here : ℕ) (a : Action) (s t : SlaveState) → is_fed a ≡ true → Fits i st a → Bless kind i st a → t.al ≡ s.al
+    → ((manager_at s.managers 2).awaited ≡ false → (manager_at t.managers 2).awaited ≡ false) → Stands kind i st false t → Sure kind i x more here a s → Sure kind i x more (here + 1) a (served t)
+sure-fed kind i st x more here (AskState y to) s t f fits bless e keep stood h = tt
+sure-fed kind i (Up c) x more here (AwaitState y to) s t f fits bless e keep stood h = λ q.
+    let can = fits.2 q in
+    let grants = bless (subst (λ (z : ℕ). IsFor i (AwaitState z to)) (sym q) (ForAwaitState i to)) in
+    climbs-served kind i c to (here + 1) t stood can.1 can.0 grants (climbs-met kind to (here + 1) s t e keep (h q))
+sure-fed kind i _ x more here (AwaitState y to) s t f fits bless e keep stood h = absurd fits.1
+sure-fed kind i _ x more here _ s t f fits bless e keep stood h = absurd (both_ways false refl f)
 
 -- ---- past all slaves
 
-module _ (ps : List SlavePlan) (fs : List Feed) (ends : ℕ → Config) (stages : ℕ → Stage) (f : Feed) (n number : ℕ) (a : Action)
-    (feed : IsFeedOf ps f) (here : slice_get fs n ≡ Some f) (few : length ps ≤ 64) (fed : is_fed a ≡ true)
+module _ (ps : List SlavePlan) (fs : List Feed) (ends : ℕ → Config) (stages : ℕ → Stage) (xs : ℕ → Al) (sent more here : ℕ) (f : Feed) (n number : ℕ) (a : Action)
+    (feed : IsFeedOf ps f) (found : slice_get fs n ≡ Some f) (few : length ps ≤ 64) (fed : is_fed a ≡ true)
     (sets : (i : ℕ) → i < length ps → ((ends i).managers ≡ (planned ps i).managers) × ((ends i).fmmus ≡ (planned ps i).fmmus) × ((ends i).rise ≡ Stays Op))
-    (all : (i : ℕ) → i < length ps → HasAllSet (stages i) (ends i)) where
+    (all : (i : ℕ) → i < length ps → HasAllSet (stages i) (ends i)) (asks : (i : ℕ) → i < length ps → Fits i (stages i) a × Bless (planned ps i).kind i (stages i) a) where
   abbrev kind_of : ℕ → SlaveKind
   kind_of i = (planned ps i).kind
 
   -- before the frame
   pub record Waits (i : ℕ) (s : SlaveState) : Type 0 where
-    pub stood : Stood (kind_of i) i (stages i) a s
+    pub stood : Stood (kind_of i) i (stages i) (xs i) sent more here a s
     pub fed_by : IsFedBy ps fs n i s
 
   -- behind it, and behind a step of the firmware
   pub record Goes (i : ℕ) (s : SlaveState) : Type 0 where
-    pub stood : Stood (kind_of i) i (stages i) a s
+    pub stood : Stood (kind_of i) i (stages i) (xs i) (sent + 1) more (here + 1) a s
     pub fed_by : IsFedBy ps fs (n + 1) i s
 
   -- one slave
@@ -150,13 +137,15 @@ module _ (ps : List SlavePlan) (fs : List Feed) (ends : ℕ → Config) (stages 
           stood = record {
             stands = subst (λ (x : Stage). Stands (kind_of i) i x false (served t)) (sym h.at) (stands-served (kind_of i) i (Up h.config) false t stands);
             spelled = spelled-on (kind_of i).device s (served t) ((settles t).image ∙ ap (λ (x : Sii). x.image) (left-sii s t left)) w.stood.spelled;
-            sure = sure-fed (kind_of i) i a s t fed (left-al s t left) w.stood.sure;
+            sure = sure-fed (kind_of i) i (stages i) (xs i) more here a s t fed (asks i l).0 (asks i l).1 (left-al s t left) (left-off s t left stood.slave.four)
+                (subst (λ (x : Stage). Stands (kind_of i) i x false t) (sym h.at) stands) w.stood.sure;
+            late = λ low. absurd (running-high h.config.rise (h.rise e.2) (subst IsAskedInit h.at low));
             dry = dry-at-served (stages i) t stands.slave.four (dry-at-met (stages i) s d w.stood.dry);
           };
           fed_by = record {
             each = λ k x b e2 sp some. calm (elim (cases_eq k n) [
               | inl z ↦
-                  let same : Some x ≡ Some f = sym e2 ∙ (ap (slice_get fs) z ∙ here) in
+                  let same : Some x ≡ Some f = sym e2 ∙ (ap (slice_get fs) z ∙ found) in
                   let q : x ≡ f = cc in
                   ap (λ (y : SlaveState). (manager_at y.managers 2).awaited) (g.written (subst (λ (y : Feed). Spans (span_of_feed y) (area_of (planned ps i))) q sp) some) ∙ written-off s stood.slave.four
               | inr ne ↦ left-off s t left stood.slave.four (w.fed_by.each k x (omega (arith, b, ne)) e2 sp some)

@@ -1,5 +1,5 @@
 -- What the requests of a start-up leave known of the assignment objects.
-use Rattle.ec_bringup.proofs.Words.{ℕ, zero, suc, ◌+◌, ◌≡◌, ◌==◌, Bool, true, false, not, Option, Some, None, refl, sym, ◌∙◌, ap, subst, arith, List, [], ◌∷◌, ◌++◌, length, take, append_assoc, length-append, flat_map, eq-eqb, ne_eqb, both_ways, length-map, if_true, if_false, Entry, Pdo, Mailbox, SlaveKind, SlaveState, SdoValue, Assignment, assigned, all_assigned, indices, byte_value, word_value, output_assignment, input_assignment, has_some, pdo_at, SlavePlan, SdoRequest, Transfer, Upload, requests, downloads, entries_read, pdo_read, slots_written, assignment_written, Claim, Config, no_claim, claimed, answered, answered_by, talked_over, asked_all, prepared, claim_of, Claims, IsAssigned, IsOfKind, IsStartable, append-nil, take_all}
+use Rattle.ec_bringup.proofs.Words.{ℕ, zero, suc, ◌+◌, ◌≡◌, ◌==◌, Bool, true, false, not, Option, Some, None, refl, sym, ◌∙◌, ap, subst, arith, List, [], ◌∷◌, ◌++◌, length, take, append_assoc, length-append, flat_map, eq-eqb, ne_eqb, both_ways, length-map, if_true, if_false, Entry, Pdo, Mailbox, SlaveKind, SlaveState, SdoValue, Assignment, assigned, all_assigned, indices, byte_value, word_value, output_assignment, input_assignment, has_some, pdo_at, SlavePlan, SdoRequest, Upload, requests, downloads, entries_read, pdo_read, slots_written, assignment_written, Claim, Config, claimed, answered, talked_over, asked_all, prepared, claim_of, Claims, IsAssigned, IsOfKind, IsStartable, append-nil, take_all, is_some, cases_Bool, inl, inr, and_parts, is_assignable, is_fixed, parameters_written, assignment_of}
 
 pub talked-append : (c : Config) (rs qs : List SdoRequest) → talked_over c (rs ++ qs) ≡ talked_over (talked_over c rs) qs
 talked-append c [] qs = refl
@@ -14,7 +14,7 @@ abbrev pub object_at : Bool → ℕ
 object_at true = output_assignment
 object_at false = input_assignment
 
--- ---- uploads leave all as it is known
+-- ---- uploads
 
 abbrev pub AreUploads : List SdoRequest → Type 0
 AreUploads [] = Unit {0}
@@ -35,14 +35,6 @@ pdo-uploads (Some p) = ((_, refl), entries-upload p.index 1 p.entries)
 pub all-upload : (ps : List Pdo) (indices : List ℕ) → AreUploads (flat_map (λ index. pdo_read (pdo_at ps index)) indices)
 all-upload ps [] = tt
 all-upload ps (i ∷ is) = uploads-append (pdo_read (pdo_at ps i)) _ (pdo-uploads (pdo_at ps i)) (all-upload ps is)
-
-pub uploads-keep : (o : Bool) (c : Config) (rs : List SdoRequest) → AreUploads rs → claim_at o (talked_over c rs) ≡ claim_at o c
-uploads-keep o c [] h = refl
-uploads-keep o c (r ∷ rs) h = uploads-keep o (answered c r) rs h.1 ∙ (ap (λ (x : Transfer). claim_at o (answered_by c r x)) h.0.1 ∙ same o)
-  where
-    same : (o : Bool) → claim_at o (record c { talk = None }) ≡ claim_at o c
-    same true = refl
-    same false = refl
 
 -- ---- downloads to the one object, and to the other
 
@@ -73,11 +65,10 @@ slots-other : (o : Bool) (c : Config) (k : ℕ) (xs : List ℕ) → claim_at (no
 slots-other o c k [] = refl
 slots-other o c k (x ∷ xs) = slots-other o (answered c (downloads (object_at o) k (word_value x))) (k + 1) xs ∙ other-claim o c k (word_value x)
 
--- the whole of one object
-pub assigned-own : (o : Bool) (c : Config) (xs : List ℕ) (b : Bool) → claim_at o c ≡ no_claim → claim_at o (talked_over c (assignment_written (object_at o) xs b)) ≡ claim_of xs b
-assigned-own o c xs false h = h
-assigned-own o c [] true h = own-claim o c 0 (byte_value 0)
-assigned-own o c (x ∷ xs) true h =
+-- the whole of one object, whatever was known of it
+pub assigned-own : (o : Bool) (c : Config) (xs : List ℕ) → claim_at o (talked_over c (assignment_written (object_at o) xs true)) ≡ claim_of xs true
+assigned-own o c [] = own-claim o c 0 (byte_value 0)
+assigned-own o c (x ∷ xs) =
     let c1 : Config = answered c (downloads (object_at o) 0 (byte_value 0)) in
     let c2 : Config = talked_over c1 (slots_written (object_at o) 1 (x ∷ xs)) in
     let a : claim_at o c1 ≡ record { count = Some 0; slots = [] } = own-claim o c 0 (byte_value 0) in
@@ -97,22 +88,39 @@ assigned-other o c (x ∷ xs) true =
 
 -- ---- all requests of a slave
 
-pub requests-claim : (p : SlavePlan) → ((talked_over (prepared p) (requests p)).outs ≡ claim_of p.outputs (has_some p.kind.outputs)) × ((talked_over (prepared p) (requests p)).ins ≡ claim_of p.inputs (has_some p.kind.inputs))
-requests-claim p =
+-- of an assignment that isn't fixed
+written-requests : (p : SlavePlan) (b : Bool) → is_fixed p.kind.hardware ≡ b → requests p ≡ parameters_written p.kind.init ++ (flat_map (λ index. pdo_read (pdo_at p.kind.outputs index)) p.outputs
+    ++ (flat_map (λ index. pdo_read (pdo_at p.kind.inputs index)) p.inputs
+    ++ (assignment_of b output_assignment p.outputs (has_some p.kind.outputs) ++ assignment_of b input_assignment p.inputs (has_some p.kind.inputs))))
+written-requests p b e = ap (λ (x : Bool). parameters_written p.kind.init ++ (flat_map (λ index. pdo_read (pdo_at p.kind.outputs index)) p.outputs
+    ++ (flat_map (λ index. pdo_read (pdo_at p.kind.inputs index)) p.inputs
+    ++ (assignment_of x output_assignment p.outputs (has_some p.kind.outputs) ++ assignment_of x input_assignment p.inputs (has_some p.kind.inputs))))) e
+
+pub record AreClaimed (p : SlavePlan) (c : Config) : Type 0 where
+  pub outs : has_some p.kind.outputs ≡ true → c.outs ≡ claim_of p.outputs true
+  pub ins : has_some p.kind.inputs ≡ true → c.ins ≡ claim_of p.inputs true
+
+pub requests-claim : (p : SlavePlan) → is_fixed p.kind.hardware ≡ false → AreClaimed p (talked_over (prepared p) (requests p))
+requests-claim p free =
+    let u0 : List SdoRequest = parameters_written p.kind.init in
     let u1 : List SdoRequest = flat_map (λ index. pdo_read (pdo_at p.kind.outputs index)) p.outputs in
     let u2 : List SdoRequest = flat_map (λ index. pdo_read (pdo_at p.kind.inputs index)) p.inputs in
     let a1 : List SdoRequest = assignment_written output_assignment p.outputs (has_some p.kind.outputs) in
     let a2 : List SdoRequest = assignment_written input_assignment p.inputs (has_some p.kind.inputs) in
-    let c1 : Config = talked_over (prepared p) u1 in
+    let c0 : Config = talked_over (prepared p) u0 in
+    let c1 : Config = talked_over c0 u1 in
     let c2 : Config = talked_over c1 u2 in
     let c3 : Config = talked_over c2 a1 in
     let whole : talked_over (prepared p) (requests p) ≡ talked_over c3 a2
-    = talked-append (prepared p) u1 (u2 ++ (a1 ++ a2)) ∙ (talked-append c1 u2 (a1 ++ a2) ∙ talked-append c2 a1 a2) in
-    let o2 : c2.outs ≡ no_claim = uploads-keep true c1 u2 (all-upload p.kind.inputs p.inputs) ∙ uploads-keep true (prepared p) u1 (all-upload p.kind.outputs p.outputs) in
-    let i2 : c2.ins ≡ no_claim = uploads-keep false c1 u2 (all-upload p.kind.inputs p.inputs) ∙ uploads-keep false (prepared p) u1 (all-upload p.kind.outputs p.outputs) in (
-      ap (λ (c : Config). c.outs) whole ∙ (assigned-other false c3 p.inputs (has_some p.kind.inputs) ∙ assigned-own true c2 p.outputs (has_some p.kind.outputs) o2),
-      ap (λ (c : Config). c.ins) whole ∙ assigned-own false c3 p.inputs (has_some p.kind.inputs) (assigned-other true c2 p.outputs (has_some p.kind.outputs) ∙ i2),
-    )
+    = ap (talked_over (prepared p)) (written-requests p false free)
+    ∙ (talked-append (prepared p) u0 (u1 ++ (u2 ++ (a1 ++ a2))) ∙ (talked-append c0 u1 (u2 ++ (a1 ++ a2)) ∙ (talked-append c1 u2 (a1 ++ a2) ∙ talked-append c2 a1 a2))) in
+    record {
+      outs = λ e. ap (λ (c : Config). c.outs) whole
+          ∙ (assigned-other false c3 p.inputs (has_some p.kind.inputs)
+          ∙ (ap (λ (b : Bool). (talked_over c2 (assignment_written output_assignment p.outputs b)).outs) e ∙ assigned-own true c2 p.outputs));
+      ins = λ e. ap (λ (c : Config). c.ins) whole
+          ∙ (ap (λ (b : Bool). (talked_over c3 (assignment_written input_assignment p.inputs b)).ins) e ∙ assigned-own false c3 p.inputs);
+    }
 
 -- ---- the assignment at the end of the script
 
@@ -126,30 +134,41 @@ none-there [] e = refl
 none-there (p ∷ ps) e = absurd (both_ways true e refl)
 
 -- what such a claim says of a slave
-by-some : (b : Bool) (xs : List ℕ) (a : Assignment) → (b ≡ false → assigned a ≡ xs) → Claims (claim_of xs b) a → assigned a ≡ xs
-by-some true xs a h c = ap (λ (k : ℕ). take k a.slots) (c.count_is (length xs) refl) ∙ c.slots_are
-by-some false xs a h c = h refl
+by-some : (b : Bool) (xs : List ℕ) (a : Assignment) → (b ≡ false → assigned a ≡ xs) → (b ≡ true → Claims (claim_of xs true) a) → assigned a ≡ xs
+by-some true xs a h k = let c = k refl in ap (λ (n : ℕ). take n a.slots) (c.count_is (length xs) refl) ∙ c.slots_are
+by-some false xs a h k = h refl
 
 assigned-whole : (xs : List ℕ) (a : Assignment) (ps : List Pdo) → a ≡ all_assigned ps → xs ≡ indices ps → assigned a ≡ xs
 assigned-whole xs a ps e f =
     let l : length (indices ps) ≡ length ps = length-map ps (λ (p : Pdo). p.index) in
     ap assigned e ∙ (ap (λ (k : ℕ). take k (indices ps)) (sym l) ∙ (take_all (length (indices ps)) (indices ps) (omega arith) ∙ sym f))
 
--- the assignment is the plan's, with a mailbox or without
+-- the assignment is the plan's, whether it could be written or not
 pub assignment-held : (p : SlavePlan) (o : Option Mailbox) (s : SlaveState) → p.kind.mailbox ≡ o → IsStartable p → IsOfKind p.kind s → IsAssigned (asked_all (prepared p) p o) s
     → (assigned s.outs ≡ p.outputs) × (assigned s.ins ≡ p.inputs)
-assignment-held p None s e h k a =
-    let f = k.fixed e in
-    let q = h.all_assigned e in (
-      assigned-whole p.outputs s.outs p.kind.outputs (f.outs ∙ ap (λ (x : SlaveKind). all_assigned x.outputs) k.kind_is) q.0,
-      assigned-whole p.inputs s.ins p.kind.inputs (f.ins ∙ ap (λ (x : SlaveKind). all_assigned x.inputs) k.kind_is) q.1,
-    )
-assignment-held p (Some b) s e h k a =
-    let r = requests-claim p in (
-      by-some (has_some p.kind.outputs) p.outputs s.outs
-          (λ z. take-none s.outs.slots s.outs.count (k.outs ∙ none-there p.kind.outputs z) ∙ sym (h.no_outs z))
-          (subst (λ (c : Claim). Claims c s.outs) r.0 a.outs),
-      by-some (has_some p.kind.inputs) p.inputs s.ins
-          (λ z. take-none s.ins.slots s.ins.count (k.ins ∙ none-there p.kind.inputs z) ∙ sym (h.no_ins z))
-          (subst (λ (c : Claim). Claims c s.ins) r.1 a.ins),
-    )
+assignment-held p o s e h k a = elim (cases_Bool (is_assignable p.kind.mailbox p.kind.hardware)) [
+  | inr off ↦
+      let f = k.fixed off in
+      let q = h.all_assigned off in (
+        assigned-whole p.outputs s.outs p.kind.outputs (f.outs ∙ ap (λ (x : SlaveKind). all_assigned x.outputs) k.kind_is) q.0,
+        assigned-whole p.inputs s.ins p.kind.inputs (f.ins ∙ ap (λ (x : SlaveKind). all_assigned x.inputs) k.kind_is) q.1,
+      )
+  | inl on ↦ written o e a on
+]
+  where
+    no-true : (b : Bool) → not b ≡ true → b ≡ false
+    no-true true f = absurd (both_ways false refl f)
+    no-true false f = refl
+
+    written : (x : Option Mailbox) → p.kind.mailbox ≡ x → IsAssigned (asked_all (prepared p) p x) s → is_assignable p.kind.mailbox p.kind.hardware ≡ true → (assigned s.outs ≡ p.outputs) × (assigned s.ins ≡ p.inputs)
+    written None q g on = absurd (both_ways (is_some p.kind.mailbox) (ap is_some q) (and_parts (is_some p.kind.mailbox) (not (is_fixed p.kind.hardware)) on).0)
+    written (Some b) q g on =
+        let free : is_fixed p.kind.hardware ≡ false = no-true (is_fixed p.kind.hardware) (and_parts (is_some p.kind.mailbox) (not (is_fixed p.kind.hardware)) on).1 in
+        let r : AreClaimed p (talked_over (prepared p) (requests p)) = requests-claim p free in (
+          by-some (has_some p.kind.outputs) p.outputs s.outs
+              (λ z. take-none s.outs.slots s.outs.count (k.outs ∙ none-there p.kind.outputs z) ∙ sym (h.no_outs z))
+              (λ z. subst (λ (c : Claim). Claims c s.outs) (r.outs z) g.outs),
+          by-some (has_some p.kind.inputs) p.inputs s.ins
+              (λ z. take-none s.ins.slots s.ins.count (k.ins ∙ none-there p.kind.inputs z) ∙ sym (h.no_ins z))
+              (λ z. subst (λ (c : Claim). Claims c s.ins) (r.ins z) g.ins),
+        )

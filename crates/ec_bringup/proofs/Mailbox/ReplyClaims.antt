@@ -1,5 +1,6 @@
 -- A reply that fits says that its request was done.
-use Rattle.ec_bringup.proofs.Words.{ℕ, ◌+◌, ◌-◌, ◌*◌, ◌%◌, ◌^◌, ◌<◌, ◌≤◌, ◌≡◌, ◌≢◌, ◌==◌, ◌&&◌, Bool, true, false, Option, Some, None, Result, Ok, Err, refl, sym, ◌∙◌, ap, subst, inl, inr, arith, if◌then◌else◌, List, [], ◌∷◌, ◌++◌, length, take, set, cases_Bool, cases_eq, eq-eqb, ne_eqb, mod-eq_of_lt, if_true, if_false, Pdo, ValueSize, SdoValue, AbortCode, Message, Service, RequestService, Response, OtherService, Sdo, DownloadRequest, DownloadResponse, UploadRequest, AbortCommand, Reply, Downloaded as HasDownloaded, Unexpected, message_bytes, message_read, message_in, command_of, command_number, size_number, reply_in, reply_by, response_in, abort_in, Assignment, Dictionary, output_assignment, input_assignment, uploaded, written_over, downloaded, Answer, answer_of, answer_by, download_answer, value_of, reads-as-message, command-read, outs-stand, ins-stand, Assigned, Counted, Slotted, EffectsDownloaded as Downloaded, Outputs, Inputs, download-effect, good, SdoRequest, Transfer, Download, Upload, Next, request_command, request_value, message_verdict, reply_verdict, Claim, Config, claimed, slot_claimed, answered, answered_by, IsRequest, IsTransfer, Claims}
+use Rattle.ec_coe.specs.declared.message.SdoCommand.TheVariants.{Other as OtherCommand}
+use Rattle.ec_bringup.proofs.Words.{ℕ, ◌+◌, ◌-◌, ◌*◌, ◌%◌, ◌^◌, ◌<◌, ◌≤◌, ◌≡◌, ◌≢◌, ◌==◌, ◌&&◌, Bool, true, false, Option, Some, None, Result, Ok, Err, refl, sym, ◌∙◌, ap, subst, inl, inr, arith, if◌then◌else◌, List, [], ◌∷◌, ◌++◌, length, take, set, cases_Bool, cases_eq, eq-eqb, ne_eqb, mod-eq_of_lt, if_true, if_false, Pdo, ValueSize, SdoValue, AbortCode, Message, Service, RequestService, Response, OtherService, Sdo, DownloadRequest, DownloadResponse, UploadRequest, AbortCommand, Reply, Downloaded as HasDownloaded, Unexpected, message_bytes, message_read, message_in, command_of, command_number, size_number, reply_in, reply_by, response_in, abort_in, Assignment, Dictionary, output_assignment, input_assignment, downloaded, Answer, answer_of, answer_by, download_answer, value_of, reads-as-message, command-read, Assigned, Counted, Slotted, EffectsDownloaded as Downloaded, Outputs, Inputs, Effect, Assigns, Puts, download-effect, good, outs-own, ins-own, value_at, own_values, parameter_of, written_by, object_written, UploadResponse, SlaveKind, done_by, is_aside, is_unsized, sized_command, sized_message, raw_verdict, free_verdict, free_message_verdict, free_reply_verdict, size_asked, heard_in, Aside, SdoRequest, Transfer, Download, Upload, Next, request_command, request_value, message_verdict, reply_verdict, Claim, Config, claimed, slot_claimed, answered_by, IsRequest, IsTransfer, Claims}
 
 -- ---- claims
 
@@ -94,30 +95,64 @@ by-effect c r w d e lo li ho hi (Inputs o i b q a) =
       subst (λ (x : Dictionary). Claims (claimed c.ins r.subindex w.number) x.ins) (sym q) (claim-effect d.kind.inputs c.ins d.ins b r.subindex w.number a (li i) hi),
     )
 
--- a download that is done has written over a value
-found-old : (in_preop : Bool) (d : Dictionary) (index subindex : ℕ) (v : SdoValue) (e : Dictionary) (old : Result SdoValue AbortCode) → written_over in_preop d index subindex v old ≡ good e → (o : SdoValue) × (old ≡ good o)
+-- a parameter is no assignment
+put-claims : (c : Config) (r : SdoRequest) (w : SdoValue) (d e : Dictionary) (values : List SdoValue) → r.index ≢ output_assignment → r.index ≢ input_assignment → e ≡ record d { values = values }
+    → Claims c.outs d.outs → Claims c.ins d.ins → Claimed (answered_by c r (Download w)) e
+put-claims c r w d e values other ni q ho hi =
+    let z : answered_by c r (Download w) ≡ record c { talk = None } = if_false _ _ _ (ne_eqb _ _ other) ∙ if_false _ _ _ (ne_eqb _ _ ni) in
+    subst (λ (x : Config). Claimed x e) (sym z)
+    (subst (λ (x : Dictionary). Claims c.outs x.outs) (sym q) ho, subst (λ (x : Dictionary). Claims c.ins x.ins) (sym q) hi)
+
+-- a parameter has another index
+other-index : (kind : SlaveKind) (object index subindex place : ℕ) → parameter_of kind object subindex ≡ None → parameter_of kind index subindex ≡ Some place → index ≢ object
+other-index kind object index subindex place none there e = absurd (let f : None ≡ Some place = sym (ap (λ (x : ℕ). parameter_of kind x subindex) e ∙ none) ∙ there in cc)
+
+-- a download that assigns has written over a value of the assignment
+found-old : (in_preop : Bool) (d : Dictionary) (index subindex : ℕ) (v : SdoValue) (e : Dictionary) (old : Result SdoValue AbortCode) → object_written in_preop d index subindex v old ≡ good e → (o : SdoValue) × (old ≡ good o)
 found-old in_preop d index subindex v e (Ok o) q = (o, refl)
 found-old in_preop d index subindex v e (Err code) q = absurd (let bad : Result Dictionary AbortCode = Err code in let f : bad ≡ good e = q in cc)
 
-old-there : (in_preop : Bool) (d : Dictionary) (index subindex : ℕ) (v : SdoValue) (e : Dictionary) → downloaded in_preop d index subindex v ≡ good e → (o : SdoValue) × (uploaded d index subindex ≡ good o)
+old-there : (in_preop : Bool) (d : Dictionary) (index subindex : ℕ) (v : SdoValue) (e : Dictionary) → parameter_of d.kind index subindex ≡ None → downloaded in_preop d index subindex v ≡ good e
+    → (o : SdoValue) × (value_at (own_values d index) subindex ≡ good o)
 unfolding downloaded
-old-there in_preop d index subindex v e q = found-old in_preop d index subindex v e (uploaded d index subindex) q
+old-there in_preop d index subindex v e none q =
+    found-old in_preop d index subindex v e (value_at (own_values d index) subindex) (sym (ap (written_by in_preop d index subindex v) none) ∙ q)
+
+-- what is done in another state is done in PREOP
+in-preop : (in_preop : Bool) (d : Dictionary) (index subindex place : ℕ) (v : SdoValue) → parameter_of d.kind index subindex ≡ Some place → downloaded true d index subindex v ≡ downloaded in_preop d index subindex v
+unfolding downloaded
+in-preop in_preop d index subindex place v e = ap (written_by true d index subindex v) e ∙ sym (ap (written_by in_preop d index subindex v) e)
+
+-- what is known after a request that was done, and that it was
+abbrev pub Follows : Config → SdoRequest → Transfer → Dictionary → Dictionary → Type 0
+Follows c r x d e = Claimed (answered_by c r x) e × (done_by d r x ≡ good e)
+
+by-downloaded : (c : Config) (r : SdoRequest) (w : SdoValue) (in_preop : Bool) (d e : Dictionary) → Claims c.outs d.outs → Claims c.ins d.ins → downloaded in_preop d r.index r.subindex w ≡ good e
+    → Effect in_preop d r.index r.subindex w e → Follows c r (Download w) d e
+by-downloaded c r w in_preop d e ho hi same (Assigns none free preop h) =
+    let there = old-there in_preop d r.index r.subindex w e none same in (
+      by-effect c r w d e
+          (λ i. (outs-own d r.index r.subindex there.0 i there.1).there)
+          (λ i. (ins-own d r.index r.subindex there.0 i there.1).there)
+          ho hi h,
+      subst (λ (b : Bool). downloaded b d r.index r.subindex w ≡ good e) preop same,
+    )
+by-downloaded c r w in_preop d e ho hi same (Puts h) = (
+  put-claims c r w d e (set d.values h.place w) (other-index d.kind output_assignment r.index r.subindex h.place refl h.there) (other-index d.kind input_assignment r.index r.subindex h.place refl h.there) h.is ho hi,
+  in-preop in_preop d r.index r.subindex h.place w h.there ∙ same,
+)
 
 -- a download, of as many bytes as its command says
-by-download : (c : Config) (r : SdoRequest) (w : SdoValue) (in_preop : Bool) (d : Dictionary) (m : Message) (counter : ℕ) (v : SdoValue) → m.index ≡ r.index → m.subindex ≡ r.subindex → v.number ≡ w.number
+by-download : (c : Config) (r : SdoRequest) (w : SdoValue) (in_preop : Bool) (d : Dictionary) (m : Message) (counter : ℕ) (v : SdoValue) → m.index ≡ r.index → m.subindex ≡ r.subindex → v ≡ w
     → Claims c.outs d.outs → Claims c.ins d.ins
     → command_of (command_number (download_answer d m counter (downloaded in_preop d m.index m.subindex v)).reply.command) ≡ DownloadResponse
-    → Claimed (answered_by c r (Download w)) (download_answer d m counter (downloaded in_preop d m.index m.subindex v)).dictionary
+    → Follows c r (Download w) d (download_answer d m counter (downloaded in_preop d m.index m.subindex v)).dictionary
 by-download c r w in_preop d m counter v a b n ho hi q =
     let old : Result Dictionary AbortCode = downloaded in_preop d m.index m.subindex v in
     let e : Dictionary = (download_answer d m counter old).dictionary in
-    let same : downloaded in_preop d r.index r.subindex v ≡ good e
-    = sym (ap (λ (x : ℕ). downloaded in_preop d x m.subindex v) a ∙ ap (λ (x : ℕ). downloaded in_preop d r.index x v) b) ∙ (by-done d m counter old q) in
-    let there = old-there in_preop d r.index r.subindex v e same in
-    by-effect c r w d e
-    (λ i. (outs-stand d r.index r.subindex there.0 i there.1).there)
-    (λ i. (ins-stand d r.index r.subindex there.0 i there.1).there)
-    ho hi (subst (λ (x : ℕ). Downloaded d r.index r.subindex x e) n (download-effect in_preop d r.index r.subindex v e same).1)
+    let same : downloaded in_preop d r.index r.subindex w ≡ good e
+    = sym (ap (λ (x : ℕ). downloaded in_preop d x m.subindex v) a ∙ (ap (λ (x : ℕ). downloaded in_preop d r.index x v) b ∙ ap (λ (x : SdoValue). downloaded in_preop d r.index r.subindex x) n)) ∙ by-done d m counter old q in
+    by-downloaded c r w in_preop d e ho hi same (download-effect in_preop d r.index r.subindex w e same)
 
 -- ---- a reply that fits
 
@@ -130,25 +165,65 @@ answer-download : (in_preop : Bool) (d : Dictionary) (m : Message) (counter : �
 unfolding answer_of
 answer-download in_preop d m counter size e = ap (λ (k : Sdo). answer_by in_preop d m counter k) e
 
-by-transfer : (c : Config) (r : SdoRequest) (i : ℕ) (in_preop : Bool) (d : Dictionary) (m : Message) (counter : ℕ) (x : Transfer) (rest : List ℕ) → IsTransfer x → m.command ≡ request_command x → m.index ≡ r.index → m.subindex ≡ r.subindex → m.value ≡ request_value x
+by-transfer : (c : Config) (r : SdoRequest) (in_preop : Bool) (d : Dictionary) (m : Message) (counter : ℕ) (x : Transfer) → IsTransfer x → m.command ≡ request_command x → m.index ≡ r.index → m.subindex ≡ r.subindex → m.value ≡ request_value x
     → Claims c.outs d.outs → Claims c.ins d.ins
-    → reply_verdict i r x (reply_in r.index r.subindex (message_in (message_bytes (answer_of in_preop d m counter).reply ++ rest))) ≡ Next
-    → Claimed (answered_by c r x) (answer_of in_preop d m counter).dictionary
-by-transfer c r i in_preop d m counter (Upload v) rest k cm ix sb vl ho hi e =
-    subst (λ (x : Dictionary). Claimed (record c { talk = None }) x) (sym (answer-upload in_preop d m counter cm)) (ho, hi)
-by-transfer c r i in_preop d m counter (Download w) rest k cm ix sb vl ho hi e =
+    → ((w : SdoValue) → x ≡ Download w → command_of (command_number (answer_of in_preop d m counter).reply.command) ≡ DownloadResponse)
+    → Follows c r x d (answer_of in_preop d m counter).dictionary
+by-transfer c r in_preop d m counter (Upload v) k cm ix sb vl ho hi told =
+    let same = answer-upload in_preop d m counter cm in
+    (subst (λ (x : Dictionary). Claimed (record c { talk = None }) x) (sym same) (ho, hi), ap (λ (x : Dictionary). good x) (sym same))
+by-transfer c r in_preop d m counter (Download w) k cm ix sb vl ho hi told =
     let q = answer-download in_preop d m counter w.size cm in
-    let v : (value_of w.size m.value).number ≡ w.number = ap (λ (n : ℕ). n % 2 ^ (8 * size_number w.size)) vl ∙ mod-eq_of_lt k in
-    let n : command_of (command_number (answer_of in_preop d m counter).reply.command) ≡ DownloadResponse
-    = sym (command-read (answer_of in_preop d m counter).reply rest) ∙ done-command r.index r.subindex _ (reply-done i r w _ e) in
-    subst (λ (x : Answer). Claimed (answered_by c r (Download w)) x.dictionary) (sym q)
-    (by-download c r w in_preop d m counter (value_of w.size m.value) ix sb v ho hi (ap (λ (x : Answer). command_of (command_number x.reply.command)) (sym q) ∙ n))
+    let number : m.value % 2 ^ (8 * size_number w.size) ≡ w.number = ap (λ (n : ℕ). n % 2 ^ (8 * size_number w.size)) vl ∙ mod-eq_of_lt k in
+    let v : value_of w.size m.value ≡ w = ap (λ (n : ℕ). record w { number = n }) number in
+    subst (λ (x : Answer). Follows c r (Download w) d x.dictionary) (sym q)
+    (by-download c r w in_preop d m counter (value_of w.size m.value) ix sb v ho hi (ap (λ (x : Answer). command_of (command_number x.reply.command)) (sym q) ∙ told w refl))
 
--- a reply that the start-up takes says that the request was done, and what the assignment then is
-pub reply-claims : (c : Config) (r : SdoRequest) (i : ℕ) (in_preop : Bool) (d : Dictionary) (m : Message) (counter : ℕ) (rest : List ℕ) → IsRequest r → m.command ≡ request_command r.transfer → m.index ≡ r.index → m.subindex ≡ r.subindex → m.value ≡ request_value r.transfer
-    → Claims c.outs d.outs → Claims c.ins d.ins
-    → message_verdict i r (message_read (message_bytes (answer_of in_preop d m counter).reply ++ rest)) ≡ Next
-    → Claimed (answered c r) (answer_of in_preop d m counter).dictionary
-reply-claims c r i in_preop d m counter rest q cm ix sb vl ho hi e =
-    by-transfer c r i in_preop d m counter r.transfer rest q.transfer cm ix sb vl ho hi
-    (sym (ap (λ (o : Option Message). message_verdict i r o) (reads-as-message (answer_of in_preop d m counter).reply rest)) ∙ e)
+-- ---- what a verdict says of a reply to a download
+
+-- a message that is set aside ends nothing
+pub free-of : (i : ℕ) (r : SdoRequest) (raw : List ℕ) → free_verdict i r raw ≡ Next → free_message_verdict i r (message_read raw) ≡ Next
+free-of i r raw e = elim (cases_Bool (is_aside raw)) [
+  | inl y ↦ absurd (let f : Aside (heard_in i raw) ≡ Next = sym (if_true _ _ _ y) ∙ e in cc)
+  | inr n ↦ sym (if_false _ _ _ n) ∙ e
+]
+
+-- nor a message that can't be read
+pub none-stops : (hardware : Bool) (i : ℕ) (r : SdoRequest) (raw : List ℕ) → message_read raw ≡ None → raw_verdict hardware i r raw ≡ Next → ⊥
+none-stops false i r raw none e = (elim r.transfer as (λ x. reply_verdict i r x Unexpected ≡ Next → ⊥) [ Download v ↦ λ h. cc | Upload v ↦ λ h. cc ]) (sym (ap (message_verdict i r) none) ∙ e)
+none-stops true i r raw none e =
+    (elim r.transfer as (λ x. free_reply_verdict i r x Unexpected ≡ Next → ⊥) [ Download v ↦ λ h. cc | Upload v ↦ λ h. cc ]) (sym (ap (free_message_verdict i r) none) ∙ free-of i r raw e)
+
+unsized-done : (wanted : ValueSize) (c : Sdo) → sized_command wanted c ≡ DownloadResponse → c ≡ DownloadResponse
+unsized-done wanted DownloadResponse e = refl
+unsized-done wanted (OtherCommand number) e = absurd (by (is_unsized number) e)
+  where
+    by : (b : Bool) → (if b then UploadResponse wanted else OtherCommand number) ≡ DownloadResponse → ⊥
+    by true q = cc
+    by false q = cc
+unsized-done wanted (DownloadRequest size) e = absurd (cc e)
+unsized-done wanted UploadRequest e = absurd (cc e)
+unsized-done wanted (UploadResponse size) e = absurd (cc e)
+unsized-done wanted AbortCommand e = absurd (cc e)
+
+read-command : (hardware : Bool) (i : ℕ) (r : SdoRequest) (m : Message) (rest : List ℕ) → raw_verdict hardware i r (message_bytes m ++ rest) ≡ Next → (w : SdoValue) → r.transfer ≡ Download w
+    → command_of (command_number m.command) ≡ DownloadResponse
+read-command false i r m rest e w t =
+    let f : reply_verdict i r (Download w) (reply_in r.index r.subindex (message_in (message_bytes m ++ rest))) ≡ Next
+    = ap (λ (x : Transfer). reply_verdict i r x (reply_in r.index r.subindex (message_in (message_bytes m ++ rest)))) (sym t)
+    ∙ (sym (ap (λ (o : Option Message). message_verdict i r o) (reads-as-message m rest)) ∙ e) in
+    sym (command-read m rest) ∙ done-command r.index r.subindex _ (reply-done i r w _ f)
+read-command true i r m rest e w t =
+    let raw : List ℕ = message_bytes m ++ rest in
+    let f : reply_verdict i r (Download w) (reply_in r.index r.subindex (sized_message (size_asked r.transfer) (message_in raw))) ≡ Next
+    = ap (λ (x : Transfer). free_reply_verdict i r x (reply_in r.index r.subindex (sized_message (size_asked r.transfer) (message_in raw)))) (sym t)
+    ∙ (sym (ap (λ (o : Option Message). free_message_verdict i r o) (reads-as-message m rest)) ∙ free-of i r raw e) in
+    sym (command-read m rest) ∙ unsized-done (size_asked r.transfer) (message_in raw).command (done-command r.index r.subindex _ (reply-done i r w _ f))
+
+-- A reply that the start-up takes says that the request was done, and what the assignment then is.
+pub reply-claims : (hardware : Bool) (c : Config) (r : SdoRequest) (i : ℕ) (in_preop : Bool) (d : Dictionary) (m : Message) (counter : ℕ) (rest : List ℕ) → IsRequest r → m.command ≡ request_command r.transfer
+    → m.index ≡ r.index → m.subindex ≡ r.subindex → m.value ≡ request_value r.transfer → Claims c.outs d.outs → Claims c.ins d.ins
+    → raw_verdict hardware i r (message_bytes (answer_of in_preop d m counter).reply ++ rest) ≡ Next
+    → Follows c r r.transfer d (answer_of in_preop d m counter).dictionary
+reply-claims hardware c r i in_preop d m counter rest q cm ix sb vl ho hi e =
+    by-transfer c r in_preop d m counter r.transfer q.transfer cm ix sb vl ho hi (read-command hardware i r (answer_of in_preop d m counter).reply rest e)

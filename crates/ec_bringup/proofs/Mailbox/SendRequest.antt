@@ -1,11 +1,11 @@
 -- A request is put into a slave's mailbox.
-use Rattle.ec_bringup.proofs.Words.{ℕ, zero, suc, ◌+◌, ◌-◌, ◌*◌, ◌/◌, ◌%◌, ◌<◌, ◌≤◌, ◌≡◌, ◌==◌, ◌&&◌, ◌||◌, not, Bool, true, false, Option, Some, None, refl, sym, ◌∙◌, ap, subst, inl, inr, arith, List, [], ◌∷◌, length, slice_index, is_none, nat_lt, nat_le, length-append, and_parts, and_from, and_left, and_right, eqb-true, leb-true, length-replicate, zeros, any_below, if_true, if_false, within_true, within_below, any_below_from, SyncManagerSettings, Mailbox, SlaveKind, ram_start, ram_end, no_settings, is_set, is_mailbox, is_buffered, is_master_written, is_master_read, span, manager_bytes, SyncManager, may_write, is_enabled, ring_written, covers, Fpwr, Apwr, Fprd, Brd, Bwr, Datagram, IsDatagram, Al, SlaveState, manager_at, is_ungoverned, Window, touches, is_configured, physical_value, physical_manager, physical_managers, physical_after, writes_by_byte, length-message, settings_at, SendRequest, CountSlaves, AskInit, AwaitInit, ClearFmmus, ClearManagers, ClearStations, NameSlave, AskWord, AwaitWord, SetManager, SetFmmu, AskState, AwaitState, AwaitReply, SdoRequest, station, filled, request_bytes, request_message, sent, datagram_of, word_address_of, Config, Up, Talk, CanAct, AreMailboxes, IsRequest, HoldsZeros, IsOfKind, IsSilent, Talks, IsUpAt, IsTop, accesses_leave, managers_accessed, whole_values, Command, fmmu_bytes, state_number, read_command, Action, IsReachable, ne_eqb, shown_fmmu, fmmu_at, AwaitInitState, ClearAllFmmus, ClearAllManagers, AssignSii, ClearSiiError, AwaitCleanInit, FeedPart, ◌^◌, Hardware, is_some, is_stored, within_above, any_below_none, both_ways, cases_lt, if◌then◌else◌, manager_number}
+use Rattle.ec_bringup.proofs.Words.{ℕ, zero, suc, ◌+◌, ◌-◌, ◌*◌, ◌/◌, ◌%◌, ◌<◌, ◌≤◌, ◌≡◌, ◌==◌, ◌&&◌, ◌||◌, not, Bool, true, false, Option, Some, None, refl, sym, ◌∙◌, ap, subst, inl, inr, arith, List, [], ◌∷◌, length, slice_index, is_none, nat_lt, nat_le, length-append, and_parts, and_from, and_left, and_right, eqb-true, leb-true, length-replicate, zeros, any_below, if_true, if_false, within_true, within_below, any_below_from, SyncManagerSettings, Mailbox, SlaveKind, ram_start, ram_end, no_settings, is_set, is_mailbox, is_buffered, is_master_written, is_master_read, span, manager_bytes, SyncManager, may_write, is_enabled, ring_written, covers, Fpwr, Apwr, Fprd, Brd, Bwr, Datagram, IsDatagram, Al, SlaveState, manager_at, is_ungoverned, Window, touches, is_configured, physical_value, physical_manager, physical_managers, physical_after, writes_by_byte, length-message, settings_at, SendRequest, CountSlaves, AskInit, AwaitInit, ClearFmmus, ClearManagers, ClearStations, NameSlave, AskWord, AwaitWord, SetManager, SetFmmu, AskState, AwaitState, AwaitReply, SdoRequest, station, filled, request_bytes, request_message, sent, datagram_of, word_address_of, Config, Up, Talk, CanAct, AreMailboxes, IsRequest, HoldsZeros, IsOfKind, IsSilent, Talks, IsUpAt, IsTop, accesses_leave, managers_accessed, whole_values, Command, fmmu_bytes, state_number, read_command, Action, IsReachable, ne_eqb, shown_fmmu, fmmu_at, AwaitInitState, ClearAllFmmus, ClearAllManagers, AssignSii, ClearSiiError, AwaitCleanInit, FeedPart, ◌^◌, Hardware, is_some, is_stored, within_above, any_below_none, both_ways, cases_lt, if◌then◌else◌, manager_number, AwaitFreeReply, Stays, PreOp, IsEarly, is_init}
 use Rattle.ec_regs.specs.Memory.{manager_start}
 use Rattle.ec_slave.specs.Physical.{byte_from, setting_at, setting_for}
-use Rattle.ec_bringup.proofs.OneSlave.Alike.{claims-alike, rises-alike, kind-kept, missing-low}
+use Rattle.ec_bringup.proofs.OneSlave.Alike.{SameObjects, assigned-same, left-same, rises-alike, kind-kept, missing-low}
 use Rattle.ec_bringup.proofs.OneFrame.OtherSlaves.{ForSend, Owes, as_one}
 use Rattle.ec_bringup.proofs.OneFrame.RegisterWrites.{window-sent, pass-own}
-use Rattle.ec_bringup.proofs.OneFrame.SetRegisters.{aside-busy, low-top}
+use Rattle.ec_bringup.proofs.OneFrame.SetRegisters.{aside-busy}
 
 -- ---- one manager
 
@@ -125,8 +125,7 @@ pub record Delivered (b : Mailbox) (counter : ℕ) (r : SdoRequest) (s t : Slave
   pub outputs : manager_at t.managers 2 ≡ manager_at s.managers 2
   pub al : t.al ≡ s.al
   pub busy : t.sii.busy ≡ s.sii.busy
-  pub outs : t.outs ≡ s.outs
-  pub ins : t.ins ≡ s.ins
+  pub objects : SameObjects s t
 
 -- the first two managers with these messages
 abbrev pub with_mails : List SyncManager → Option (List ℕ) → Option (List ℕ) → List SyncManager
@@ -165,16 +164,15 @@ delivered i counter c b r s four h u none =
       outputs = ap (λ (ms : List SyncManager). manager_at ms 2) e;
       al = if_false _ _ _ (within_below b.receive_start (length (sending b counter r).bytes) 0x0120 (omega (arith, ram)));
       busy = aside-busy (sending b counter r) s.sii (omega (arith, ram));
-      outs = refl;
-      ins = refl;
+      objects = record { kind = refl; identity = refl; outs = refl; ins = refl; values = refl };
     })
 
 delivered-slave : (kind : SlaveKind) (b : Mailbox) (counter : ℕ) (r : SdoRequest) (s t : SlaveState) → Delivered b counter r s t → IsOfKind kind s → IsOfKind kind t
-delivered-slave kind b counter r s t a h = kind-kept kind s t a.kind a.room (a.count ∙ sym h.four) a.outs a.ins
+delivered-slave kind b counter r s t a h = kind-kept kind s t a.kind a.room (a.count ∙ sym h.four) a.objects.outs a.objects.ins a.objects.values
     (λ e n l. a.locked n l ∙ h.unlocked_in_init (ap (λ (x : Al). x.state) (sym a.al) ∙ e) n l)
     (λ x e. a.memory x (let f = missing-low kind.hardware x e in omega (arith, f)) (let f = missing-low kind.hardware x e in let room = h.room in omega (arith, f, room))) h
 
-delivered-up : (i counter : ℕ) (c : Config) (b : Mailbox) (r : SdoRequest) (s t : SlaveState) → length s.memory ≡ 0x3000 → c.talk ≡ None → AreMailboxes b c.managers → IsRequest r → (IsTop c.rise → ⊥)
+delivered-up : (i counter : ℕ) (c : Config) (b : Mailbox) (r : SdoRequest) (s t : SlaveState) → length s.memory ≡ 0x3000 → c.talk ≡ None → AreMailboxes b c.managers → IsRequest r → c.rise ≡ Stays PreOp
     → Delivered b counter r s t → IsUpAt i c s → IsUpAt i (record c { talk = Some (record { mailbox = b; counter = counter; request = r }) }) t
 delivered-up i counter c b r s t room none boxes q low h u =
     let silent : IsSilent c s = subst (λ (o : Option Talk). Talks i c o s) none u.talks in
@@ -195,13 +193,12 @@ delivered-up i counter c b r s t room none boxes q low h u =
         mailboxes = boxes;
         request = q;
         mailbox_message = h.mailbox_message;
-        no_reply = h.mail 1 (omega arith) (omega arith) ∙ silent.no_reply;
-        assigned = record {
-          outs = claims-alike c.outs s.outs t.outs h.outs silent.assigned.outs;
-          ins = claims-alike c.ins s.ins t.ins h.ins silent.assigned.ins;
-        };
+        no_reply = inr (h.mail 1 (omega arith) (omega arith) ∙ (silent.no_reply
+            ∙ sym (left-same c (record c { talk = Some (record { mailbox = b; counter = counter; request = r }) }) s t h.kind (h.settings 1 (omega arith)) (ap (λ (x : Al). is_init x.state) h.al) refl)));
+        assigned = let a = assigned-same c s t h.objects silent.assigned in record { outs = a.outs; ins = a.ins; came = a.came };
       });
-      quiet = λ top. absurd (low top);
+      early = λ e. absurd (subst IsEarly low e);
+      quiet = λ top. absurd (subst IsTop low top);
     }
 
 pub pass-send : (kind : SlaveKind) (i counter : ℕ) (b : Mailbox) (r : SdoRequest) (c : Config) (trouble : Bool) (number : ℕ) (d : Datagram) (s : SlaveState)
@@ -211,9 +208,9 @@ pass-send kind i counter b r c trouble number d s l can good arrives h =
     let silent = λ (u : IsUpAt i c s). subst (λ (o : Option Talk). Talks i c o s) can.1 u.talks in
     pass-own kind i c trouble (SendRequest i counter b r) number d s (sending b counter r) (as_one number (ForSend i counter b r)) l refl
     (window-sent Fpwr (station i) b.receive_start (filled b.receive_size (request_bytes counter r)) number) (let a = lies.1 in omega (arith, a, can.2.receive_start))
-    (λ o. o) (low-top c.rise can.0)
+    (λ o. o) (λ top. subst IsTop can.0 top)
     (λ k u. delivered-slave kind b counter r s (physical_after s false true (sending b counter r)) (delivered i counter c b r s k.four can.2 u (silent u).no_message) k)
-    (λ k u. delivered-up i counter c b r s (physical_after s false true (sending b counter r)) k.room can.1 can.2 can.3 (low-top c.rise can.0) (delivered i counter c b r s k.four can.2 u (silent u).no_message) u)
+    (λ k u. delivered-up i counter c b r s (physical_after s false true (sending b counter r)) k.room can.1 can.2 can.3 can.0 (delivered i counter c b r s k.four can.2 u (silent u).no_message) u)
     good arrives h
 
 -- ---- the datagrams of a start-up are datagrams: each field fits its bits
@@ -225,6 +222,7 @@ IsSendable (SetFmmu t n f start) = n < 4
 IsSendable (FeedPart f) = (f.bytes ≤ 1422) × (f.address < 2 ^ 32)
 IsSendable (SendRequest t counter b r) = IsReachable b
 IsSendable (AwaitReply t b r) = IsReachable b
+IsSendable (AwaitFreeReply t b r) = IsReachable b
 IsSendable _ = Unit {0}
 
 sent-good : (c : Command) (adp ado : ℕ) (bytes : List ℕ) (number : ℕ) → ado < 65536 → length bytes < 2048 → IsDatagram (sent c adp ado bytes number)
@@ -258,3 +256,4 @@ datagram-good (AskState t to) number h = sent-good Fpwr (station t) 0x0120 (stat
 datagram-good (AwaitState t to) number h = sent-good Fprd (station t) 0x0130 (zeros 6) number (omega arith) (zeros-few 6 (omega arith))
 datagram-good (SendRequest t counter b r) number h = sent-good Fpwr (station t) b.receive_start (filled b.receive_size (request_bytes counter r)) number h.receive (omega (arith, sending-length b counter r h.receive_some, h.receive_few))
 datagram-good (AwaitReply t b r) number h = sent-good Fprd (station t) b.send_start (zeros b.send_size) number h.send (zeros-few b.send_size (let x = h.send_few in omega (arith, x)))
+datagram-good (AwaitFreeReply t b r) number h = sent-good Fprd (station t) b.send_start (zeros b.send_size) number h.send (zeros-few b.send_size (let x = h.send_few in omega (arith, x)))

@@ -1,5 +1,5 @@
 -- The polls of a start-up at a slave that has what is waited for: one poll ends the wait.
-use Rattle.ec_bringup.proofs.Words.{ℕ, zero, suc, ◌+◌, ◌*◌, ◌%◌, ◌^◌, ◌<◌, ◌≤◌, ◌≡◌, ◌==◌, ◌&&◌, not, Bool, true, false, Some, refl, sym, ◌∙◌, ap, arith, List, length, slice_index, is_some, bit_at, to_le_bytes, w32, from_bool, from_le_bytes-to_le_bytes_4, eq-eqb, and_from, length-replicate, zeros, if_true, if_false, Device, Mailbox, ram_start, Fprd, adp_of, State, Init, state_number, may_read, SlaveState, station_of, manager_at, Window, byte_at, byte_read, updated, some_byte_read, window_of, datagram_met, message_read, AwaitWord, AwaitState, AwaitCleanInit, AwaitReply, SdoRequest, WantedDevice, or_right, station, sent, datagram_of, Next, Word, with_word, is_device, word_at, long_at, word_verdict, message_verdict, verdict, shows_itself}
+use Rattle.ec_bringup.proofs.Words.{ℕ, zero, suc, ◌+◌, ◌*◌, ◌%◌, ◌^◌, ◌<◌, ◌≤◌, ◌≡◌, ◌==◌, ◌&&◌, not, Bool, true, false, Some, refl, sym, ◌∙◌, ap, arith, List, length, slice_index, is_some, bit_at, to_le_bytes, w32, from_bool, from_le_bytes-to_le_bytes_4, eq-eqb, and_from, length-replicate, zeros, if_true, if_false, Device, Mailbox, ram_start, Fprd, adp_of, State, Init, state_number, may_read, SlaveState, station_of, manager_at, Window, byte_at, byte_read, updated, some_byte_read, window_of, datagram_met, message_read, AwaitWord, AwaitState, AwaitCleanInit, AwaitReply, AwaitFreeReply, SdoRequest, Datagram, PreOp, SafeOp, Op, IsStepUp, is_aside, raw_verdict, free_verdict, heard_in, Heard, MayRepeat, inr, WantedDevice, or_right, station, sent, datagram_of, Next, Word, Again, Aside, with_word, is_device, word_at, long_at, word_verdict, message_verdict, verdict, shows_itself}
 use Rattle.ec_bringup.proofs.OneFrame.RegisterWrites.{window-sent}
 use Rattle.ec_bringup.proofs.OneFrame.RegisterPolls.{read-byte, read-bytes, register-shows}
 use Rattle.ec_bringup.proofs.Mailbox.AwaitReply.{Boxes, asking, read-counter, some-read, raw-read}
@@ -36,11 +36,11 @@ await-state-ends n step seen types s i state number e l h =
 
 -- ---- INIT, without an error
 
-pub await-clean-ends : (n step : ℕ) (seen : Device) (types : ℕ → WantedDevice) (s : SlaveState) (i : ℕ) (number : ℕ) → station_of s ≡ station i → i < 64 → IsThere Init s
+pub await-clean-ends : (n step : ℕ) (seen : Device) (types : ℕ → WantedDevice) (s : SlaveState) (i : ℕ) (number : ℕ) → station_of s ≡ station i → i < 64 → s.al.state ≡ Init → s.al.error ≡ false
     → verdict n step seen types (AwaitCleanInit i) (datagram_met s (datagram_of (AwaitCleanInit i) number)) ≡ Next
-await-clean-ends n step seen types s i number e l h =
+await-clean-ends n step seen types s i number e l state clean =
     let b : slice_index (datagram_met s (datagram_of (AwaitCleanInit i) number)).data_bytes 0 ≡ 1
-    = back s i 0x0130 6 number 0 e l (omega arith) (omega arith) ∙ ((shows_itself s).status ∙ (ap (λ (x : State). state_number x + 16 * from_bool s.al.error) h.state_is ∙ ap (λ (x : Bool). 1 + 16 * from_bool x) h.no_error)) in
+    = back s i 0x0130 6 number 0 e l (omega arith) (omega arith) ∙ ((shows_itself s).status ∙ (ap (λ (x : State). state_number x + 16 * from_bool s.al.error) state ∙ ap (λ (x : Bool). 1 + 16 * from_bool x) clean)) in
     if_true _ _ _ (eq-eqb _ 1 (register-shows s i 0x0130 (zeros 6) number 0 e l (omega arith) (omega arith)))
     ∙ if_true _ _ _ (eq-eqb _ 1 (ap (λ (x : ℕ). x % 32) b))
 
@@ -87,27 +87,108 @@ await-word-ends n step seen types s i which number e l w big told h =
     moved : (j : ℕ) → byte_at s (0x0502 + (6 + j)) ≡ byte_at s (0x0508 + j)
     moved j = let q : 0x0502 + (6 + j) ≡ 0x0508 + j = omega arith in ap (byte_at s) q
 
+-- ---- a state that isn't there yet
+
+low-state : (st : State) → (bit_at (state_number st) 4 == 1) ≡ false
+low-state Init = refl
+low-state _ = refl
+
+other-state : (from to : State) → IsStepUp from to → (state_number from % 32 == state_number to) ≡ false
+other-state Init PreOp up = refl
+other-state PreOp SafeOp up = refl
+other-state SafeOp Op up = refl
+other-state _ _ up = absurd up
+
+pub await-state-goes-on : (n step : ℕ) (seen : Device) (types : ℕ → WantedDevice) (s : SlaveState) (i : ℕ) (from to : State) (number : ℕ) → station_of s ≡ station i → i < 64 → IsStepUp from to → s.al.state ≡ from → s.al.error ≡ false
+    → verdict n step seen types (AwaitState i to) (datagram_met s (datagram_of (AwaitState i to) number)) ≡ Again
+await-state-goes-on n step seen types s i from to number e l up state clean =
+    let b : slice_index (datagram_met s (datagram_of (AwaitState i to) number)).data_bytes 0 ≡ state_number from
+    = back s i 0x0130 6 number 0 e l (omega arith) (omega arith) ∙ ((shows_itself s).status ∙ (ap (λ (x : State). state_number x + 16 * from_bool s.al.error) state ∙ (ap (λ (x : Bool). state_number from + 16 * from_bool x) clean ∙ more (state_number from)))) in
+    if_true _ _ _ (eq-eqb _ 1 (register-shows s i 0x0130 (zeros 6) number 0 e l (omega arith) (omega arith)))
+    ∙ (if_false _ _ _ (ap (λ (x : ℕ). bit_at x 4 == 1) b ∙ low-state from) ∙ if_false _ _ _ (ap (λ (x : ℕ). x % 32 == state_number to) b ∙ other-state from to up))
+  where
+    more : (n : ℕ) → n + 16 * 0 ≡ n
+    more n = omega arith
+
+-- an error in INIT that isn't acknowledged yet
+pub await-clean-goes-on : (n step : ℕ) (seen : Device) (types : ℕ → WantedDevice) (s : SlaveState) (i : ℕ) (number : ℕ) → station_of s ≡ station i → i < 64 → s.al.state ≡ Init → s.al.error ≡ true
+    → verdict n step seen types (AwaitCleanInit i) (datagram_met s (datagram_of (AwaitCleanInit i) number)) ≡ Again
+await-clean-goes-on n step seen types s i number e l state bad =
+    let b : slice_index (datagram_met s (datagram_of (AwaitCleanInit i) number)).data_bytes 0 ≡ 17
+    = back s i 0x0130 6 number 0 e l (omega arith) (omega arith) ∙ ((shows_itself s).status ∙ (ap (λ (x : State). state_number x + 16 * from_bool s.al.error) state ∙ ap (λ (x : Bool). 1 + 16 * from_bool x) bad)) in
+    if_true _ _ _ (eq-eqb _ 1 (register-shows s i 0x0130 (zeros 6) number 0 e l (omega arith) (omega arith)))
+    ∙ if_false _ _ _ (ap (λ (x : ℕ). x % 32 == 1) b)
+
 -- ---- a reply
 
 -- the reply that is wanted lies in manager 1
-pub record HasReply (i : ℕ) (r : SdoRequest) (size : ℕ) (s : SlaveState) : Type 0 where
+pub record HasReply (hardware : Bool) (i : ℕ) (r : SdoRequest) (size : ℕ) (s : SlaveState) : Type 0 where
   pub raw : List ℕ
   pub long : length raw ≡ size
   pub mail : (manager_at s.managers 1).mail ≡ Some raw
-  pub fits : message_verdict i r (message_read raw) ≡ Next
+  pub fits : raw_verdict hardware i r raw ≡ Next
+
+-- what lies there is read
+module _ (s : SlaveState) (i : ℕ) (b : Mailbox) (number : ℕ) (raw : List ℕ) (e : station_of s ≡ station i) (l : i < 64) (bx : Boxes b s) (mail : (manager_at s.managers 1).mail ≡ Some raw) (long : length raw ≡ b.send_size) where
+  abbrev d : Datagram
+  d = sent Fprd (station i) b.send_start (zeros b.send_size) number
+
+  adp : adp_of d ≡ station_of s
+  adp = omega (arith, e, l)
+
+  w : window_of d ≡ asking b
+  w = window-sent Fprd (station i) b.send_start (zeros b.send_size) number
+
+  full : may_read (manager_at s.managers 1) ≡ true
+  full = and_from _ _ bx.enabled (and_from _ _ bx.read (if_true _ _ _ bx.box ∙ ap is_some mail))
+
+  pub counts : (datagram_met s d).counter ≡ 1
+  counts = read-counter s d refl adp ∙ (ap (λ (x : Window). (0 + from_bool (some_byte_read s.managers x)) % 65536) w
+      ∙ ap (λ (x : Bool). (0 + from_bool x) % 65536) (some-read b s true bx full))
+
+  pub brought : (datagram_met s d).data_bytes ≡ raw
+  brought = read-bytes s d refl adp ∙ (ap (λ (x : Window). updated x.bytes (byte_read s false x)) w ∙ raw-read b s raw bx mail long full)
 
 pub await-reply-ends : (n step : ℕ) (seen : Device) (types : ℕ → WantedDevice) (s : SlaveState) (i : ℕ) (b : Mailbox) (r : SdoRequest) (number : ℕ) → station_of s ≡ station i → i < 64
-    → Boxes b s → HasReply i r b.send_size s
+    → Boxes b s → HasReply false i r b.send_size s
     → verdict n step seen types (AwaitReply i b r) (datagram_met s (datagram_of (AwaitReply i b r) number)) ≡ Next
 await-reply-ends n step seen types s i b r number e l bx h =
-    let adp : adp_of (datagram_of (AwaitReply i b r) number) ≡ station_of s = omega (arith, e, l) in
-    let w : window_of (datagram_of (AwaitReply i b r) number) ≡ asking b = window-sent Fprd (station i) b.send_start (zeros b.send_size) number in
-    let full : may_read (manager_at s.managers 1) ≡ true = and_from _ _ bx.enabled (and_from _ _ bx.read (if_true _ _ _ bx.box ∙ ap is_some h.mail)) in
-    let sum : (datagram_met s (datagram_of (AwaitReply i b r) number)).counter ≡ 1
-    = read-counter s (datagram_of (AwaitReply i b r) number) refl adp ∙ (ap (λ (x : Window). (0 + from_bool (some_byte_read s.managers x)) % 65536) w
-    ∙ ap (λ (x : Bool). (0 + from_bool x) % 65536) (some-read b s true bx full)) in
-    let bytes : (datagram_met s (datagram_of (AwaitReply i b r) number)).data_bytes ≡ h.raw
-    = read-bytes s (datagram_of (AwaitReply i b r) number) refl adp ∙ (ap (λ (x : Window). updated x.bytes (byte_read s false x)) w ∙ raw-read b s h.raw bx h.mail h.long full) in
+    let sum = counts s i b number h.raw e l bx h.mail h.long in
+    let bytes = brought s i b number h.raw e l bx h.mail h.long in
     if_false _ _ _ (ap (λ (x : ℕ). x == 0) sum)
     ∙ (if_true _ _ _ (ap (λ (x : ℕ). x == 1) sum)
     ∙ (ap (λ (x : List ℕ). message_verdict i r (message_read x)) bytes ∙ h.fits))
+
+pub await-free-ends : (n step : ℕ) (seen : Device) (types : ℕ → WantedDevice) (s : SlaveState) (i : ℕ) (b : Mailbox) (r : SdoRequest) (number : ℕ) → station_of s ≡ station i → i < 64
+    → Boxes b s → HasReply true i r b.send_size s
+    → verdict n step seen types (AwaitFreeReply i b r) (datagram_met s (datagram_of (AwaitFreeReply i b r) number)) ≡ Next
+await-free-ends n step seen types s i b r number e l bx h =
+    let sum = counts s i b number h.raw e l bx h.mail h.long in
+    let bytes = brought s i b number h.raw e l bx h.mail h.long in
+    if_false _ _ _ (ap (λ (x : ℕ). x == 0) sum)
+    ∙ (if_true _ _ _ (ap (λ (x : ℕ). x == 1) sum)
+    ∙ (ap (λ (x : List ℕ). free_verdict i r x) bytes ∙ h.fits))
+
+-- ---- what a slave says as it enters PREOP is read first, and set aside
+
+pub record Greets (size : ℕ) (s : SlaveState) : Type 0 where
+  pub raw : List ℕ
+  pub long : length raw ≡ size
+  pub mail : (manager_at s.managers 1).mail ≡ Some raw
+  pub aside : is_aside raw ≡ true
+
+pub await-free-goes-on : (n step : ℕ) (seen : Device) (types : ℕ → WantedDevice) (s : SlaveState) (i : ℕ) (b : Mailbox) (r : SdoRequest) (number : ℕ) → station_of s ≡ station i → i < 64
+    → Boxes b s → Greets b.send_size s
+    → (heard : Heard) × (verdict n step seen types (AwaitFreeReply i b r) (datagram_met s (datagram_of (AwaitFreeReply i b r) number)) ≡ Aside heard)
+await-free-goes-on n step seen types s i b r number e l bx h =
+    let sum = counts s i b number h.raw e l bx h.mail h.long in
+    let bytes = brought s i b number h.raw e l bx h.mail h.long in (
+      heard_in i h.raw,
+      if_false _ _ _ (ap (λ (x : ℕ). x == 0) sum)
+          ∙ (if_true _ _ _ (ap (λ (x : ℕ). x == 1) sum)
+          ∙ (ap (λ (x : List ℕ). free_verdict i r x) bytes ∙ if_true _ _ _ h.aside)),
+    )
+
+-- and it is one that may be tried again
+pub greets-repeat : (s : SlaveState) (i : ℕ) (b : Mailbox) (r : SdoRequest) (number : ℕ) → station_of s ≡ station i → i < 64 → Boxes b s → Greets b.send_size s → MayRepeat (AwaitFreeReply i b r) (datagram_met s (datagram_of (AwaitFreeReply i b r) number))
+greets-repeat s i b r number e l bx h = inr (ap is_aside (brought s i b number h.raw e l bx h.mail h.long) ∙ h.aside)

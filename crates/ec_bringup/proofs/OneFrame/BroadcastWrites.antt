@@ -1,7 +1,7 @@
 -- The broadcasts of a start-up at any slave.
 use Rattle.ec_bringup.proofs.Words.{ℕ, suc, ◌+◌, ◌-◌, ◌*◌, ◌/◌, ◌%◌, ◌<◌, ◌≡◌, Bool, true, false, refl, sym, ◌∙◌, ap, subst, inl, arith, List, [], ◌∷◌, length, slice_index, or_left, or_right, zeros, if_true, if_false, within_true, within_below, within_above, SlaveKind, no_settings, SyncManager, empty_manager, Command, Bwr, Datagram, adp_of, ado_of, Al, requesting, role_of, adp_after, is_reading, is_writing, SlaveState, manager_at, station_of, Window, touches, physical_after, is_configured, window_of, slave_met, datagram_met, Action, datagram_of, Stage, Called, Down, after, HoldsZeros, IsInInit, AreClear, Stands, IsWriting, IsOther, MayRepeat, Met, Wrote, set_by, wrote, unconfigured, OnlyWrites, writes_meet, goes_on, sent, zero, ◌≤◌, inr, Option, None, unwrap_or, get_or, cases_Bool, cases_eq, cases_lt, length-replicate, Lowered, IsOfKind, HasFallen, AreNumbered, is_missing, no_manager, unviewed, Sii, written, is_stored_at, accesses_leave, updated_by_index, managers_clear, on_left, Hardware}
 use Rattle.ec_bringup.proofs.OneSlave.Reset.{get_or-zeros}
-use Rattle.ec_bringup.proofs.OneFrame.RegisterWrites.{slave-wrote, window-sent}
+use Rattle.ec_bringup.proofs.OneFrame.RegisterWrites.{slave-wrote, objects-wrote, identity-wrote, window-sent}
 use Rattle.ec_bringup.proofs.OneSlave.Alike.{SameFront, SameFronts, front-refl, Alike, word_of, gone-on, init-alike, fallen-alike, reached-low, stands-alike}
 use Rattle.ec_bringup.proofs.OneSlave.Lacking.{has-below, keeps-there, keeps-below}
 
@@ -314,8 +314,7 @@ sii-alike s x room four =
       memory = λ a l. sii-memory s x a room k l;
       managers = fronts-by s.managers t.managers k.count four same;
       idle = λ e. ap (λ (p : Sii). p.busy) k.sii ∙ (sii-kept x s.sii ∙ e);
-      outs = k.outs;
-      ins = k.ins;
+      objects = objects-wrote w s t k (identity-wrote s w);
     }
 
 pub assign-sii : (kind : SlaveKind) (i : ℕ) (st : Stage) (trouble : Bool) (s : SlaveState) (x : ℕ) → kind.face ≡ None → Stands kind i st trouble s → Stands kind i st trouble (physical_after s false true (assigned-sii x))

@@ -1,5 +1,5 @@
 -- The commands of a start-up at their slave: each counts 1, and what the firmware step after it makes of it.
-use Rattle.ec_bringup.proofs.Words.{ℕ, zero, suc, ◌+◌, ◌-◌, ◌*◌, ◌/◌, ◌%◌, ◌<◌, ◌≤◌, ◌≡◌, ◌&&◌, not, Bool, true, false, List, Option, Some, None, Ok, refl, sym, ◌∙◌, ap, subst, arith, [], ◌∷◌, length, or_left, and_left, le-leb, if_true, if_false, SyncManagerSettings, FmmuSettings, Device, device_of, is_stored, takes_writes, manager_bytes, fmmu_bytes, State, Init, PreOp, SafeOp, Op, Checks, state_number, answer, requested_by, acknowledges, Al, sii_image_word_at as word_at, size_of, Sii, written, read_command, SlaveState, station_of, datagram_met, control_word, checks_of, served, AskWord, SetManager, SetFmmu, ManagerRegister, AskState, station, datagram_of, word_address_of, IsStepUp, IsAsked, IsSpelled, settles, Hardware, has_firmware, al_decided, is_awaiting, is_safeop, manager_at, requested_number, cases_Bool, both_ways, inl, inr, ◌==◌, fmmu_count}
+use Rattle.ec_bringup.proofs.Words.{ℕ, zero, suc, ◌+◌, ◌-◌, ◌*◌, ◌/◌, ◌%◌, ◌<◌, ◌≤◌, ◌≡◌, ◌&&◌, not, Bool, true, false, List, Option, Some, None, Ok, refl, sym, ◌∙◌, ap, subst, arith, [], ◌∷◌, length, or_left, and_left, le-leb, if_true, if_false, SyncManagerSettings, FmmuSettings, Device, device_of, is_stored, takes_writes, manager_bytes, fmmu_bytes, State, Init, PreOp, SafeOp, Op, Checks, state_number, answer, requested_by, acknowledges, Al, sii_image_word_at as word_at, size_of, Sii, written, read_command, SlaveState, station_of, datagram_met, control_word, checks_of, served, AskWord, SetManager, SetFmmu, ManagerRegister, AskState, station, datagram_of, word_address_of, IsStepUp, IsAsked, IsSpelled, settles, Hardware, has_firmware, al_decided, is_awaiting, is_safeop, manager_at, requested_number, cases_Bool, both_ways, inl, inr, ◌==◌, fmmu_count, is_slow}
 use Rattle.ec_al.specs.Al as al
 use Rattle.ec_sii.specs.Port as port
 use Rattle.ec_bringup.proofs.OneSlave.Lacking.{has-above, has-below, has-own}
@@ -118,31 +118,10 @@ at-once s (Some h) to e w = by to refl
     by SafeOp q = not-asked h.has_firmware (is_safeop s.al.state) _ (manager_at s.managers 2).awaited (other-request to (control_word s) (λ p. cc (sym q ∙ p)) e)
 
 pub granted : (s : SlaveState) (from to : State) → IsStepUp from to → IsAsked from (state_number to) s → (has_firmware s.kind.hardware ≡ true → s.al.error ≡ false) → (to ≡ Op → Unawaited s.kind.hardware s)
-    → Passes (checks_of s) to → IsThere to (served s)
-granted s from to up h clean wanted p =
-    let q : (served s).al ≡ al.answered s.al (Ok to) = (settles s).al (at-once s s.kind.hardware to h.control_is wanted) ∙ (if_true _ _ _ h.request ∙ decided-to s s.kind.hardware from to up h clean p) in
+    → is_slow s.kind.hardware s ≡ false → Passes (checks_of s) to → IsThere to (served s)
+granted s from to up h clean wanted quick p =
+    let q : (served s).al ≡ al.answered s.al (Ok to) = (settles s).al quick (at-once s s.kind.hardware to h.control_is wanted) ∙ (if_true _ _ _ h.request ∙ decided-to s s.kind.hardware from to up h clean p) in
     record { state_is = ap (λ (x : Al). x.state) q; no_error = ap (λ (x : Al). x.error) q; no_request = ap (λ (x : Al). x.requested) q }
-
--- ---- in INIT no request waits for outputs, so a step settles it
-
-pub init-not-awaiting : (s : SlaveState) (o : Option Hardware) → s.al.state ≡ Init → is_awaiting o s ≡ false
-init-not-awaiting s None e = refl
-init-not-awaiting s (Some h) e =
-    not-safe h.has_firmware (is_safeop s.al.state) _ (ap is_safeop e)
-  where
-    not-safe : (a b c : Bool) → b ≡ false → (a && (b && c)) ≡ false
-    not-safe true true c q = absurd (both_ways true q refl)
-    not-safe true false c q = refl
-    not-safe false b c q = refl
-
--- a slave that stands in INIT after a step has no request
-pub init-settled : (t : SlaveState) → (served t).al.state ≡ Init → (served t).al.requested ≡ false
-init-settled t e = elim (cases_Bool (is_awaiting t.kind.hardware t)) [
-  | inr calm ↦ (settles t).no_request calm
-  | inl waits ↦
-      let same : (served t).al ≡ t.al = (settles t).awaits waits in
-      absurd (both_ways (is_awaiting t.kind.hardware t) (init-not-awaiting t t.kind.hardware (ap (λ (x : Al). x.state) (sym same) ∙ e)) waits)
-]
 
 -- ---- a word of the SII that was asked for is found
 

@@ -17,10 +17,10 @@ use Rattle.ec_slave.proofs.LogicalAccess.ExchangeLaw.{exchange}
 use Rattle.ec_slave.proofs.LogicalAccess.MissesLaw.{misses}
 use Rattle.ec_bits.proofs.AnyLaws.{within_parts}
 use Rattle.ec_link.specs.Meaning.{area_of}
-use Rattle.ec_link.specs.Interface.{AreListed, output_manager, input_manager, lwr_count, lrw_count, whole_share, has_outs, has_ins}
+use Rattle.ec_link.specs.Interface.{AreListed, IsOfBuffer, output_manager, input_manager, lwr_count, lrw_count, whole_share, has_outs, has_ins}
 use Rattle.ec_bringup.specs.Fed.{IsCountedIn, Within, Outside}
 use Rattle.ec_device.specs.Hardware.{IsHardware, out_manager, in_manager}
-use Rattle.ec_link.proofs.ManagersApart.{IsOfBuffer, no_box, process_some, of_type_outputs, of_type_inputs}
+use Rattle.ec_link.proofs.ManagersApart.{process_data_is_buffered as buffered}
 use Rattle.ec_bringup.proofs.OneSlave.FmmusHeld.{fmmus-held}
 use Rattle.ec_bringup.proofs.OneFrame.MappedAreas.{four-managers, mapped-area, set-process}
 use Rattle.ec_bringup.proofs.OneFrame.Blank.{blank-misses}
@@ -179,9 +179,9 @@ module _ (ps : List SlavePlan) (f : Feed) (number i : ℕ) (c : Config) (d : Dat
       → with_outputs s (outputs_from a (span_of d) d.data_bytes) ≡ with_outputs_written s
   taken-zeros m zs es spans t =
       let some : 0 < p.share.outs = ltb-true 0 p.share.outs (and_parts (nat_lt 0 a.outs) (may_write (manager_at s.managers 2)) t).0 in
-      let mode : IsOfBuffer (out_manager p.kind.hardware).control = of_type_outputs p.kind.mailbox p.kind.hardware hw in
+      let mode : IsOfBuffer (out_manager p.kind.hardware).control = buffered.type_outputs p.kind.mailbox p.kind.hardware hw in
       let is : (manager_at s.managers 2).settings ≡ area_settings p.kind.out_start (bytes_of_bits p.share.outs) (out_manager p.kind.hardware).control
-      = es ∙ process_some p.kind.out_start p.share.outs (out_manager p.kind.hardware).control some in
+      = es ∙ buffered.some p.kind.out_start p.share.outs (out_manager p.kind.hardware).control some in
       let there : is_set (area_settings p.kind.out_start (bytes_of_bits p.share.outs) (out_manager p.kind.hardware).control) ≡ true
       = set-process p.kind.out_start p.share.outs (out_manager p.kind.hardware).control mode some listed.out_fits in
       let long : buffer_length (manager_at s.managers 2).settings ≡ bytes_of_bits p.share.outs = ap buffer_length is ∙ if_true _ _ _ (and_from _ _ there (eq-eqb _ 0 mode.mode)) in
@@ -248,11 +248,11 @@ module _ (ps : List SlavePlan) (f : Feed) (number i : ℕ) (c : Config) (d : Dat
 
       open_for : 0 < p.share.outs → may_write (manager_at s.managers 2) ≡ true
       open_for some =
-          let mode : IsOfBuffer control = of_type_outputs p.kind.mailbox p.kind.hardware hw in
-          let is : (manager_at s.managers 2).settings ≡ area_settings p.kind.out_start (bytes_of_bits p.share.outs) control = es ∙ process_some p.kind.out_start p.share.outs control some in
+          let mode : IsOfBuffer control = buffered.type_outputs p.kind.mailbox p.kind.hardware hw in
+          let is : (manager_at s.managers 2).settings ≡ area_settings p.kind.out_start (bytes_of_bits p.share.outs) control = es ∙ buffered.some p.kind.out_start p.share.outs control some in
           and_from _ _ (and_from _ _ (ap is_set is ∙ set-process p.kind.out_start p.share.outs control mode some listed.out_fits) (ap not u))
           (and_from _ _ (ap is_master_written is ∙ eq-eqb _ 1 (let w = out-mode p.kind.mailbox p.kind.hardware hw in omega (arith, w)))
-          (if_false _ _ _ (ap is_mailbox is ∙ no_box control mode.mode)))
+          (if_false _ _ _ (ap is_mailbox is ∙ buffered.no_mailbox p.kind.out_start (bytes_of_bits p.share.outs) control mode)))
 
       by : (b : Bool) → nat_lt 0 p.share.outs ≡ b → (nat_lt 0 p.share.outs && may_write (manager_at s.managers 2)) ≡ nat_lt 0 p.share.outs
       by true e = and_from _ _ e (open_for (ltb-true 0 p.share.outs e)) ∙ sym e
@@ -267,11 +267,11 @@ module _ (ps : List SlavePlan) (f : Feed) (number i : ℕ) (c : Config) (d : Dat
 
       open_for : 0 < p.share.ins → may_read (manager_at s.managers 3) ≡ true
       open_for some =
-          let mode : IsOfBuffer control = of_type_inputs p.kind.mailbox p.kind.hardware hw in
-          let is : (manager_at s.managers 3).settings ≡ area_settings p.kind.in_start (bytes_of_bits p.share.ins) control = es ∙ process_some p.kind.in_start p.share.ins control some in
+          let mode : IsOfBuffer control = buffered.type_inputs p.kind.mailbox p.kind.hardware hw in
+          let is : (manager_at s.managers 3).settings ≡ area_settings p.kind.in_start (bytes_of_bits p.share.ins) control = es ∙ buffered.some p.kind.in_start p.share.ins control some in
           and_from _ _ (and_from _ _ (ap is_set is ∙ set-process p.kind.in_start p.share.ins control mode some listed.in_fits) (ap not u))
           (and_from _ _ (ap is_master_read is ∙ eq-eqb _ 0 (let w = in-mode p.kind.mailbox p.kind.hardware hw in omega (arith, w)))
-          (if_false _ _ _ (ap is_mailbox is ∙ no_box control mode.mode)))
+          (if_false _ _ _ (ap is_mailbox is ∙ buffered.no_mailbox p.kind.in_start (bytes_of_bits p.share.ins) control mode)))
 
       by : (b : Bool) → nat_lt 0 p.share.ins ≡ b → (nat_lt 0 p.share.ins && may_read (manager_at s.managers 3)) ≡ nat_lt 0 p.share.ins
       by true e = and_from _ _ e (open_for (ltb-true 0 p.share.ins e)) ∙ sym e

@@ -1,13 +1,13 @@
 -- The broadcast reads of a start-up at any slave.
-use Rattle.ec_bringup.proofs.Words.{ℕ, ◌+◌, ◌*◌, ◌/◌, ◌%◌, ◌<◌, ◌≤◌, ◌≡◌, Bool, true, false, Some, refl, sym, ◌∙◌, ap, subst, inl, inr, arith, slice_index, ◌≢◌, ◌==◌, if◌then◌else◌, bit_or, from_bool, bit_at, le_or_l, le_or_r, or_mod, both_ways, cases_eq, eq-eqb, SlaveKind, Datagram, adp_of, ado_of, IsDatagram, State, Init, state_number, SlaveState, Meeting, with_answer, byte_at, updated, meets, slave_met, datagram_met, broadcast_read, CountSlaves, AwaitInit, AskInit, ClearFmmus, ClearManagers, ClearStations, NameSlave, AskWord, AwaitWord, SetManager, SetFmmu, AskState, AwaitState, SendRequest, AwaitReply, datagram_of, Stage, Called, Down, Up, Config, Fits, IsInInit, Reached, Stands, IsBroadcast, ShowsInit, MayEnd, MayRepeat, shows_itself, updated_by_index, if_true, if_false, Device, Reply, Downloaded, Uploaded, message_read, reply_of, Action, SdoRequest, Transfer, Download, Upload, Verdict, Next, Again, Fails, StartError, verdict, counted, reply_verdict, word_at, CanAct, FrameLaw, LaterLaw, Lost, TakeLaw, eqb-true, not, size_number, type_of, Word, long_at, ◌&&◌, is_device, with_word, zeros, [], ◌∷◌, AwaitInitState, ClearAllFmmus, ClearAllManagers, AssignSii, ClearSiiError, AwaitCleanInit, FeedPart, Feed, Fed, WantedDevice, access_number, Lowered, HasFallen, IsNamed, ShowsLow, init_request, control_word, FedLaw, PreOp, SafeOp, Op}
-use Rattle.ec_bringup.proofs.OneFrame.OtherSlaves.{pass-other, later-one, ForAwaitCleanInit, ForAskState, ForAskWord, ForAwaitReply, ForAwaitState, ForAwaitWord, ForSend, ForSetFmmu, ForSetManager, IsFor, Owes, as_one}
+use Rattle.ec_bringup.proofs.Words.{ℕ, ◌+◌, ◌*◌, ◌/◌, ◌%◌, ◌<◌, ◌≤◌, ◌≡◌, Bool, true, false, Some, refl, sym, ◌∙◌, ap, subst, inl, inr, arith, slice_index, ◌≢◌, ◌==◌, if◌then◌else◌, bit_or, from_bool, bit_at, le_or_l, le_or_r, or_mod, both_ways, cases_eq, eq-eqb, SlaveKind, Datagram, adp_of, ado_of, IsDatagram, State, Init, state_number, SlaveState, Meeting, with_answer, byte_at, updated, meets, slave_met, datagram_met, broadcast_read, CountSlaves, AwaitInit, AskInit, ClearFmmus, ClearManagers, ClearStations, NameSlave, AskWord, AwaitWord, SetManager, SetFmmu, AskState, AwaitState, SendRequest, AwaitReply, datagram_of, Stage, Called, Down, Up, Config, Fits, IsInInit, Reached, Stands, IsBroadcast, ShowsInit, MayEnd, MayRepeat, shows_itself, updated_by_index, if_true, if_false, Device, Reply, Downloaded, Uploaded, message_read, reply_of, Action, SdoRequest, Transfer, Download, Upload, Verdict, Next, Again, Fails, StartError, verdict, counted, reply_verdict, word_at, CanAct, FrameLaw, LaterLaw, Lost, TakeLaw, eqb-true, not, size_number, type_of, Word, long_at, ◌&&◌, is_device, with_word, zeros, [], ◌∷◌, AwaitInitState, ClearAllFmmus, ClearAllManagers, AssignSii, ClearSiiError, AwaitCleanInit, FeedPart, Feed, Fed, WantedDevice, access_number, Lowered, HasFallen, IsNamed, ShowsLow, init_request, control_word, FedLaw, PreOp, SafeOp, Op, AwaitFreeReply, Aborted, Unexpected, is_aside, heard_in, free_reply_verdict, free_reply_of, size_asked, Aside}
+use Rattle.ec_bringup.proofs.OneFrame.OtherSlaves.{pass-other, later-one, ForAwaitCleanInit, ForAskState, ForAskWord, ForAwaitReply, ForAwaitFreeReply, ForAwaitState, ForAwaitWord, ForSend, ForSetFmmu, ForSetManager, IsFor, Owes, as_one}
 use Rattle.ec_bringup.proofs.OneFrame.RegisterWrites.{pass-ask-state}
 use Rattle.ec_bringup.proofs.OneFrame.RegisterPolls.{pass-await-clean, pass-await-state, pass-await-word}
 use Rattle.ec_bringup.proofs.OneFrame.BroadcastWrites.{pass-broadcast, init-called, clear-fmmus, clear-managers, clear-all-fmmus, clear-all-managers, down-aside, lowered-aside, stations-aside, sii-aside, assign-sii}
 use Rattle.ec_bringup.proofs.OneFrame.NameSlave.{pass-name}
 use Rattle.ec_bringup.proofs.OneFrame.SetRegisters.{pass-ask-word, pass-set-manager, pass-set-fmmu}
 use Rattle.ec_bringup.proofs.Mailbox.SendRequest.{pass-send}
-use Rattle.ec_bringup.proofs.Mailbox.AwaitReply.{pass-await-reply}
+use Rattle.ec_bringup.proofs.Mailbox.AwaitReply.{pass-await-reply, pass-await-free}
 use Rattle.ec_bringup.proofs.OneSlave.Alike.{reached-low}
 
 -- the datagram after it
@@ -64,7 +64,7 @@ init-shown i s l h =
     asked-of j x (inr g) e = g.asked e
 
 -- the state alone, as a table with `hardware` looks at it
-bits-state : (st : State) (e : Bool) → (state_number st + 16 * from_bool e) % 16 ≤ 1 → st ≡ Init
+pub bits-state : (st : State) (e : Bool) → (state_number st + 16 * from_bool e) % 16 ≤ 1 → st ≡ Init
 bits-state Init e l = refl
 bits-state PreOp true l = absurd (omega (arith, l))
 bits-state PreOp false l = absurd (omega (arith, l))
@@ -81,7 +81,7 @@ or-low a b h =
     (omega (arith, h, e, x), omega (arith, h, e, y))
 
 -- bits that a slave later sets don't make the state lower
-shows-lower : (s : SlaveState) (d : Datagram) (number : ℕ) → IsBroadcast (datagram_of AwaitInit number) d → ShowsLow (datagram_met s d) → ShowsLow d × (byte_at s 0x0130 % 16 ≤ 1)
+pub shows-lower : (s : SlaveState) (d : Datagram) (number : ℕ) → IsBroadcast (datagram_of AwaitInit number) d → ShowsLow (datagram_met s d) → ShowsLow d × (byte_at s 0x0130 % 16 ≤ 1)
 shows-lower s d number h k =
     let a : bit_or (slice_index d.data_bytes 0) (byte_at s 0x0130) % 16 ≤ 1 = subst (λ (x : ℕ). x % 16 ≤ 1) (look-byte s d number 0 h (omega arith)) k in
     or-low (slice_index d.data_bytes 0) (byte_at s 0x0130) a
@@ -132,7 +132,7 @@ pass-await-init kind i trouble number d s arrives h =
 
 -- ---- a frame of a start-up at a slave: all actions
 
-split : (t i : ℕ) (P : ℕ → Type 0) → P i → (t ≢ i → P t) → P t
+pub split : (t i : ℕ) (P : ℕ → Type 0) → P i → (t ≢ i → P t) → P t
 split t i P own other = elim (cases_eq t i) [
   | inl e ↦ subst P (sym e) own
   | inr ne ↦ other ne
@@ -172,6 +172,7 @@ module _ (kind : SlaveKind) (i : ℕ) (trouble : Bool) (number : ℕ) (d : Datag
   owes st (AwaitState t to) f n = by-one t st (λ x. AwaitState x to) (λ x. ForAwaitState x to) (λ c can m. pass-await-state kind i c trouble to number d s l can good) f n
   owes st (SendRequest t k b q) f n = by-one t st (λ x. SendRequest x k b q) (λ x. ForSend x k b q) (λ c can m. pass-send kind i k b q c trouble number d s l can good) f n
   owes st (AwaitReply t b q) f n = by-one t st (λ x. AwaitReply x b q) (λ x. ForAwaitReply x b q) (λ c can m. pass-await-reply kind i b q c trouble number d s l can good) f n
+  owes st (AwaitFreeReply t b q) f n = by-one t st (λ x. AwaitFreeReply x b q) (λ x. ForAwaitFreeReply x b q) (λ c can m. pass-await-free kind i b q c trouble number d s l can good) f n
   owes _ _ f n = absurd f
 
 pub pass-law : FrameLaw
@@ -191,6 +192,7 @@ later-law kind i st trouble other j at had (AskState x to) number d s t l b f go
 later-law kind i st trouble other j at had (AwaitState x to) number d s t l b f good r h m = later-one (as_one number (ForAwaitState x to)) l b f good r h m
 later-law kind i st trouble other j at had (SendRequest x n y q) number d s t l b f good r h m = later-one (as_one number (ForSend x n y q)) l b f good r h m
 later-law kind i st trouble other j at had (AwaitReply x y q) number d s t l b f good r h m = later-one (as_one number (ForAwaitReply x y q)) l b f good r h m
+later-law kind i st trouble other j at had (AwaitFreeReply x y q) number d s t l b f good r h m = later-one (as_one number (ForAwaitFreeReply x y q)) l b f good r h m
 later-law kind i st trouble other j at had _ number d s t l b f good r h m = record { other = m.other; repeated = λ o. absurd o; ended = λ o. m.ended tt }
 
 -- ---- what a verdict says
@@ -202,6 +204,7 @@ gives_up _ = false
 -- where it doesn't fail, it may: the wait is over, or goes on; and it gives up no start-up
 abbrev pub Says : Action → Datagram → Verdict → Type 0
 Says a d Again = MayRepeat a d
+Says a d (Aside heard) = MayRepeat a d
 Says a d (Fails f) = gives_up f ≡ false
 -- a part was fed by a frame that feeds it
 Says a d Fed = (f : Feed) × (a ≡ FeedPart f)
@@ -221,6 +224,14 @@ reply-says a d i r (Upload w) (Uploaded v) h =
     by-test (Says a d) (not (size_number v.size == size_number w.size)) _ _ (λ e. refl)
     (λ e. by-test (Says a d) (v.number == w.number) Next _ (λ f. h (if_false _ _ _ e ∙ if_true _ _ _ f)) (λ f. refl))
 reply-says a d i r _ _ h = refl
+
+-- of any size
+free-says : (a : Action) (d : Datagram) (i : ℕ) (r : SdoRequest) (x : Transfer) (p : Reply) → (free_reply_verdict i r x p ≡ Next → MayEnd a d) → Says a d (free_reply_verdict i r x p)
+free-says a d i r (Download w) p h = reply-says a d i r (Download w) p h
+free-says a d i r (Upload w) (Uploaded v) h = by-test (Says a d) (v.number == w.number) Next _ (λ f. h (if_true _ _ _ f)) (λ f. refl)
+free-says a d i r (Upload w) Downloaded h = refl
+free-says a d i r (Upload w) (Aborted code) h = refl
+free-says a d i r (Upload w) Unexpected h = refl
 
 pub take-says : (n step : ℕ) (s : Device) (types : ℕ → WantedDevice) (a : Action) (d : Datagram) → Says a d (verdict n step s types a d)
 take-says n step s types CountSlaves d = by-test (Says CountSlaves d) (d.counter == n) Next _ (λ e. tt) (λ e. refl)
@@ -246,6 +257,11 @@ take-says n step s types (AwaitReply t b r) d =
     by-test (Says (AwaitReply t b r) d) (d.counter == 0) Again _ (λ e. eqb-true _ _ e)
     (λ e. counted-says (AwaitReply t b r) d 1 step _
     (λ c. reply-says (AwaitReply t b r) d t r r.transfer (reply_of r.index r.subindex (message_read d.data_bytes)) (λ q. (c, q))))
+take-says n step s types (AwaitFreeReply t b r) d =
+    by-test (Says (AwaitFreeReply t b r) d) (d.counter == 0) Again _ (λ e. inl (eqb-true _ _ e))
+    (λ e. counted-says (AwaitFreeReply t b r) d 1 step _
+    (λ c. by-test (Says (AwaitFreeReply t b r) d) (is_aside d.data_bytes) (Aside (heard_in t d.data_bytes)) _ (λ f. inr f)
+    (λ f. free-says (AwaitFreeReply t b r) d t r r.transfer (free_reply_of r.index r.subindex (size_asked r.transfer) (message_read d.data_bytes)) (λ q. (c, if_false _ _ _ f ∙ q)))))
 take-says n step s types AwaitInitState d =
     counted-says AwaitInitState d n step _
     (λ c. by-test (Says AwaitInitState d) (slice_index d.data_bytes 0 % 16 == 1) Next Again (λ e. let w = eqb-true (slice_index d.data_bytes 0 % 16) 1 e in omega (arith, w)) (λ e. tt))
@@ -263,7 +279,7 @@ take-says n step s types a d = counted-says a d 1 step Next (λ e. tt)
 pub take-law : TakeLaw
 take-law n step seen ps a d =
     let h = take-says n step seen (type_of ps) a d in
-    (λ e. subst (Says a d) e h, λ value e. subst (Says a d) e h, λ e. subst (Says a d) e h)
+    (λ e. subst (Says a d) e h, λ value e. subst (Says a d) e h, λ e. subst (Says a d) e h, λ heard e. subst (Says a d) e h)
 
 -- what feeds a part
 pub fed-law : FedLaw

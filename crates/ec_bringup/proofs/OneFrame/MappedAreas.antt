@@ -10,10 +10,10 @@ use Rattle.ec_fmmu.specs.Sets.{target, source, readers, writers}
 use Rattle.ec_fmmu.proofs.RunLaws.{read_set_is_run, write_set_is_run}
 use Rattle.std.specs.List.{position_from}
 use Rattle.ec_slave.specs.Exchange.{IsMapped}
-use Rattle.ec_link.specs.Interface.{AreListed, FitsRam, has_byte, output_manager, input_manager}
+use Rattle.ec_link.specs.Interface.{AreListed, IsOfBuffer, FitsRam, has_byte, output_manager, input_manager}
 use Rattle.ec_link.specs.Meaning.{area_of}
 use Rattle.ec_link.specs.Sound.{fmmu_of}
-use Rattle.ec_link.proofs.ManagersApart.{IsOfBuffer, buffer_set, no_box, process_some, of_type_outputs, of_type_inputs}
+use Rattle.ec_link.proofs.ManagersApart.{process_data_is_buffered as buffered}
 
 -- ---- who governs a byte
 
@@ -31,7 +31,7 @@ fourth_governs m0 m1 m2 m3 a e0 e1 e2 e3 = if_false _ _ _ e0 ∙ (if_false _ _ _
 -- ---- a buffered manager with bits
 
 pub set-process : (start bits control : ℕ) → IsOfBuffer control → 0 < bits → FitsRam bits start → is_set (area_settings start (bytes_of_bits bits) control) ≡ true
-set-process start bits control mode l fits = let f = fits l in buffer_set start (bytes_of_bits bits) control mode (omega arith) f.0 f.1
+set-process start bits control mode l fits = let f = fits l in buffered.set start (bytes_of_bits bits) control mode (omega arith) f.0 f.1
 
 has_own : (start bits control k : ℕ) → is_set (area_settings start (bytes_of_bits bits) control) ≡ true → k < bytes_of_bits bits → has_byte (area_settings start (bytes_of_bits bits) control) (start + k) ≡ true
 has_own start bits control k set l = and_from _ _ set (within_true start (span (area_settings start (bytes_of_bits bits) control)) (start + k) (omega arith) (longer (is_mailbox (area_settings start (bytes_of_bits bits) control))))
@@ -43,7 +43,7 @@ has_own start bits control k set l = and_from _ _ set (within_true start (span (
 buffer-at : (start bits control : ℕ) → IsOfBuffer control → 0 < bits → FitsRam bits start → IsBufferAt (area_settings start (bytes_of_bits bits) control) start (bytes_of_bits bits)
 buffer-at start bits control mode l fits =
     let f = fits l in
-    record { start_is = refl; length_is = refl; no_mailbox = no_box control mode.mode; from_ram = f.0; to_ram = let x = f.1 in omega (arith, x) }
+    record { start_is = refl; length_is = refl; no_mailbox = buffered.no_mailbox start (bytes_of_bits bits) control mode; from_ram = f.0; to_ram = let x = f.1 in omega (arith, x) }
 
 -- ---- the area
 
@@ -76,8 +76,8 @@ mapped-area p s four held managed a hw =
     let m3 = input_manager p in
     let oc : ℕ = (out_manager p.kind.hardware).control in
     let ic : ℕ = (in_manager p.kind.hardware).control in
-    let om : IsOfBuffer oc = of_type_outputs p.kind.mailbox p.kind.hardware hw in
-    let im : IsOfBuffer ic = of_type_inputs p.kind.mailbox p.kind.hardware hw in
+    let om : IsOfBuffer oc = buffered.type_outputs p.kind.mailbox p.kind.hardware hw in
+    let im : IsOfBuffer ic = buffered.type_inputs p.kind.mailbox p.kind.hardware hw in
     let fs : fmmus s ≡ f0 ∷ f1 ∷ no_fmmu ∷ no_fmmu ∷ [] = held ∙ a.fmmus in
     let list : map (λ (m : SyncManager). m.settings) s.managers ≡ m0 ∷ m1 ∷ m2 ∷ m3 ∷ [] = managed ∙ a.managers in
     let of : (b : ℕ) → governor s.managers b ≡ position_from (λ x. has_byte x b) 0 (m0 ∷ m1 ∷ m2 ∷ m3 ∷ []) = λ b. governor_of 0 s.managers b ∙ ap (λ xs. position_from (λ x. has_byte x b) 0 xs) list in
@@ -88,10 +88,10 @@ mapped-area p s four held managed a hw =
     let some_ins : (k : ℕ) → k < bytes_of_bits p.share.ins → 0 < p.share.ins = λ k l. omega (arith, l) in
     let some_outs : (k : ℕ) → k < bytes_of_bits p.share.outs → 0 < p.share.outs = λ k l. omega (arith, l) in
     let ins_own : (k : ℕ) → k < bytes_of_bits p.share.ins → has_byte m3 (p.kind.in_start + k) ≡ true
-    = λ k l. ap (λ m. has_byte m (p.kind.in_start + k)) (process_some p.kind.in_start p.share.ins ic (some_ins k l))
+    = λ k l. ap (λ m. has_byte m (p.kind.in_start + k)) (buffered.some p.kind.in_start p.share.ins ic (some_ins k l))
     ∙ has_own p.kind.in_start p.share.ins ic k (set-process p.kind.in_start p.share.ins ic im (some_ins k l) a.in_fits) l in
     let outs_own : (k : ℕ) → k < bytes_of_bits p.share.outs → has_byte m2 (p.kind.out_start + k) ≡ true
-    = λ k l. ap (λ m. has_byte m (p.kind.out_start + k)) (process_some p.kind.out_start p.share.outs oc (some_outs k l))
+    = λ k l. ap (λ m. has_byte m (p.kind.out_start + k)) (buffered.some p.kind.out_start p.share.outs oc (some_outs k l))
     ∙ has_own p.kind.out_start p.share.outs oc k (set-process p.kind.out_start p.share.outs oc om (some_outs k l) a.out_fits) l in
     let at : (n : ℕ) → (manager_at s.managers n).settings ≡ get_or (m0 ∷ m1 ∷ m2 ∷ m3 ∷ []) n no_settings = λ n. settings-at s.managers n ∙ ap (λ xs. get_or xs n no_settings) list in
     record {
@@ -106,9 +106,9 @@ mapped-area p s four held managed a hw =
           let b = p.kind.out_start + k in
           let own = outs_own k l in
           of b ∙ third_governs m0 m1 m2 m3 b (below 0 2 b (omega arith) (omega arith) own) (below 1 2 b (omega arith) (omega arith) own) own;
-      in_buffer = λ l. subst (λ (m : SyncManagerSettings). IsBufferAt m p.kind.in_start (bytes_of_bits p.share.ins)) (sym (at 3 ∙ process_some p.kind.in_start p.share.ins ic l))
+      in_buffer = λ l. subst (λ (m : SyncManagerSettings). IsBufferAt m p.kind.in_start (bytes_of_bits p.share.ins)) (sym (at 3 ∙ buffered.some p.kind.in_start p.share.ins ic l))
           (buffer-at p.kind.in_start p.share.ins ic im l a.in_fits);
-      out_buffer = λ l. subst (λ (m : SyncManagerSettings). IsBufferAt m p.kind.out_start (bytes_of_bits p.share.outs)) (sym (at 2 ∙ process_some p.kind.out_start p.share.outs oc l))
+      out_buffer = λ l. subst (λ (m : SyncManagerSettings). IsBufferAt m p.kind.out_start (bytes_of_bits p.share.outs)) (sym (at 2 ∙ buffered.some p.kind.out_start p.share.outs oc l))
           (buffer-at p.kind.out_start p.share.outs oc om l a.out_fits);
     }
   where

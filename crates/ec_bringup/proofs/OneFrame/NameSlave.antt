@@ -1,10 +1,11 @@
 -- A slave gets its station address.
-use Rattle.ec_bringup.proofs.Words.{ℕ, suc, ◌+◌, ◌-◌, ◌*◌, ◌/◌, ◌%◌, ◌<◌, ◌≡◌, ◌≢◌, Bool, true, false, refl, sym, ◌∙◌, ap, subst, inl, inr, arith, [], ◌∷◌, length, slice_index, eq-eqb, both_ways, cases_eq, if_true, if_false, within_above, SlaveKind, no_settings, fmmu_bytes, no_fmmu, SyncManager, Command, Apwr, Datagram, IsDatagram, adp_of, ado_of, with_adp, role_of, is_reading, is_writing, SlaveState, Meeting, manager_at, station_of, Window, physical_after, meets, slave_met, datagram_met, other_position_passes, settings_at, fmmu_at, NameSlave, station, datagram_of, Stage, Down, Up, fresh, after, Fits, IsClear, HoldsZeros, AreClear, IsDownAt, IsUpAt, Stands, IsWriting, Arrives, Met, Wrote, wrote, unconfigured, OnlyWrites, writes_meet, zero, Falls, Stays, Init, Rise, Rises, Lowered, fresh_lowered, named_of, IsLoweredAt, Hardware, Option, shown_fmmu}
+use Rattle.ec_bringup.proofs.Words.{ℕ, suc, ◌+◌, ◌-◌, ◌*◌, ◌/◌, ◌%◌, ◌<◌, ◌≡◌, ◌≢◌, Bool, true, false, refl, sym, ◌∙◌, ap, subst, inl, inr, arith, [], ◌∷◌, length, slice_index, eq-eqb, both_ways, cases_eq, if_true, if_false, within_above, SlaveKind, no_settings, fmmu_bytes, no_fmmu, SyncManager, Command, Apwr, Datagram, IsDatagram, adp_of, ado_of, with_adp, role_of, is_reading, is_writing, SlaveState, Meeting, manager_at, station_of, Window, physical_after, meets, slave_met, datagram_met, other_position_passes, settings_at, fmmu_at, NameSlave, station, datagram_of, Stage, Down, Up, fresh, after, Fits, IsClear, HoldsZeros, AreClear, IsDownAt, IsUpAt, Stands, IsWriting, Arrives, Met, Wrote, wrote, unconfigured, OnlyWrites, writes_meet, zero, Falls, Stays, Init, Rise, Rises, Lowered, fresh_lowered, named_of, IsLoweredAt, Hardware, Option, shown_fmmu, IsOfKind, IsAtInit, IsDictionary, dictionary_of}
 use Rattle.ec_bringup.proofs.OneFrame.OtherSlaves.{others-stay, other-met, Owes}
 use Rattle.ec_bringup.proofs.OneSlave.Reset.{get_or-zeros}
 use Rattle.ec_bringup.proofs.OneFrame.RegisterWrites.{slave-wrote, window-sent}
 use Rattle.ec_bringup.proofs.OneFrame.BroadcastWrites.{init-wrote, fallen-wrote, written-on, window-is}
-use Rattle.ec_bringup.proofs.OneSlave.Alike.{reached-low}
+use Rattle.ec_bringup.proofs.OneSlave.Alike.{reached-low, left-init, of-own-type}
+use Rattle.ec_bringup.proofs.OneFrame.SetRegisters.{at-init}
 use Rattle.ec_bringup.proofs.OneSlave.Lacking.{keeps-below, no-other}
 
 -- ---- the meeting
@@ -35,8 +36,8 @@ fmmu-none o (suc (suc (suc zero))) = no-other o
 
 -- a slave in INIT whose registers are clear gets its station address; what is known of its AL state goes on
 named-up : (r : Rise) (i : ℕ) (s t : SlaveState) → Wrote (naming i) s t → length s.memory ≡ 0x3000 → length s.managers ≡ 4 → ((n : ℕ) → n < 4 → (manager_at s.managers n).locked ≡ false)
-    → ((k : ℕ) → k < 64 → slice_index s.memory (0x0600 + k) ≡ 0) → AreClear s → Rises r t → IsUpAt i (record fresh { rise = r }) t
-named-up r i s t h room four unlocked free clear rises =
+    → ((k : ℕ) → k < 64 → slice_index s.memory (0x0600 + k) ≡ 0) → AreClear s → IsAtInit r → IsDictionary t.kind (dictionary_of t) → Rises r t → IsUpAt i (record fresh { rise = r }) t
+named-up r i s t h room four unlocked free clear at objects rises =
     let same : (n : ℕ) → n < 4 → manager_at t.managers n ≡ manager_at s.managers n
     = λ n l. h.managers n (omega (arith, four, l)) ∙ if_false _ _ _ (unconfigured s.kind.hardware (naming i) n (inl (omega arith))) in
     record {
@@ -54,9 +55,14 @@ named-up r i s t h room four unlocked free clear rises =
       rises = rises;
       talks = record {
         no_message = ap (λ (m : SyncManager). m.mail) (same 0 (omega arith)) ∙ clear.no_messages 0 (omega arith);
-        no_reply = ap (λ (m : SyncManager). m.mail) (same 1 (omega arith)) ∙ clear.no_messages 1 (omega arith);
-        assigned = record { outs = record { count_is = λ x e. absurd (cc e); slots_are = refl }; ins = record { count_is = λ x e. absurd (cc e); slots_are = refl } };
+        no_reply = ap (λ (m : SyncManager). m.mail) (same 1 (omega arith)) ∙ (clear.no_messages 1 (omega arith) ∙ sym (left-init (record fresh { rise = r }) t (at-init r t at rises)));
+        assigned = record {
+          outs = record { count_is = λ x e. absurd (cc e); slots_are = refl };
+          ins = record { count_is = λ x e. absurd (cc e); slots_are = refl };
+          came = record { from = dictionary_of t; of_type = objects; done = refl };
+        };
       };
+      early = λ _. (refl, refl);
       quiet = λ _. refl;
     }
   where
@@ -104,9 +110,11 @@ pass-name kind i t st trouble number d s l fits good arrives h = elim (cases_eq 
     up k =
         let w : Wrote (naming i) s (physical_after s false true (naming i)) = wrote s (naming i) (omega arith) in
         let r : IsDownAt true true s = reached-low kind i (Down true true) trouble s (λ u. u) k in
+        let slave : IsOfKind kind (physical_after s false true (naming i)) = slave-wrote kind (naming i) s (physical_after s false true (naming i)) w k.slave in
         record {
-          slave = slave-wrote kind (naming i) s (physical_after s false true (naming i)) w k.slave;
+          slave = slave;
           at = inl (named-up (Stays Init) i s (physical_after s false true (naming i)) w k.slave.room k.slave.four (k.slave.unlocked_in_init r.init.state) (r.fmmus refl) (r.managers refl)
+              tt (of-own-type kind (physical_after s false true (naming i)) slave)
               (init-wrote (naming i) s (physical_after s false true (naming i)) k.slave.room refl refl w r.init));
         }
 
@@ -114,8 +122,10 @@ pass-name kind i t st trouble number d s l fits good arrives h = elim (cases_eq 
     low k =
         let w : Wrote (naming i) s (physical_after s false true (naming i)) = wrote s (naming i) (omega arith) in
         let r : IsLoweredAt true true s = reached-low kind i (Lowered true true) trouble s (λ u. u) k in
+        let slave : IsOfKind kind (physical_after s false true (naming i)) = slave-wrote kind (naming i) s (physical_after s false true (naming i)) w k.slave in
         record {
-          slave = slave-wrote kind (naming i) s (physical_after s false true (naming i)) w k.slave;
+          slave = slave;
           at = inl (named-up Falls i s (physical_after s false true (naming i)) w k.slave.room k.slave.four (k.slave.unlocked_in_init r.low.state) (r.fmmus refl) (r.managers refl)
+              tt (of-own-type kind (physical_after s false true (naming i)) slave)
               (fallen-wrote (naming i) s (physical_after s false true (naming i)) k.slave.room refl refl w r.low));
         }

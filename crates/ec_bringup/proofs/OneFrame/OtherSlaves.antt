@@ -1,5 +1,5 @@
 -- A frame of a start-up at a slave that its second datagram is not for.
-use Rattle.ec_bringup.proofs.Words.{ℕ, ◌+◌, ◌*◌, ◌%◌, ◌<◌, ◌≡◌, ◌≢◌, ◌⊎◌, Bool, refl, sym, ◌∙◌, ap, subst, inl, inr, arith, slice_index, cases_eq, ne_eqb, if_false, SlaveKind, Command, Fprd, Fpwr, Fprw, Datagram, IsDatagram, SlaveState, Meeting, station_of, power_on, meets, slave_met, datagram_met, other_station_passes, Action, AskWord, AwaitWord, SetManager, SetFmmu, AskState, AwaitState, SendRequest, AwaitReply, SdoRequest, station, at, datagram_of, Stage, Up, if_mine, after, Fits, IsUp, Stands, switched_on, Untouched, ReadsOn, Arrives, IsOther, Met, Config, FitsOne, FmmuSettings, Mailbox, State, SyncManagerSettings, eq-eqb, if_true, config_after, up_after, AwaitCleanInit, ManagerRegister}
+use Rattle.ec_bringup.proofs.Words.{ℕ, ◌+◌, ◌*◌, ◌%◌, ◌<◌, ◌≡◌, ◌≢◌, ◌⊎◌, Bool, refl, sym, ◌∙◌, ap, subst, inl, inr, arith, slice_index, cases_eq, ne_eqb, if_false, SlaveKind, Command, Fprd, Fpwr, Fprw, Datagram, IsDatagram, SlaveState, Meeting, station_of, power_on, meets, slave_met, datagram_met, other_station_passes, Action, AskWord, AwaitWord, SetManager, SetFmmu, AskState, AwaitState, SendRequest, AwaitReply, AwaitFreeReply, SdoRequest, station, at, datagram_of, Stage, Up, if_mine, after, Fits, IsUp, Stands, switched_on, Untouched, ReadsOn, Arrives, IsOther, Met, Config, FitsOne, FmmuSettings, Mailbox, State, SyncManagerSettings, eq-eqb, if_true, config_after, up_after, AwaitCleanInit, ManagerRegister}
 
 -- ---- station addresses
 
@@ -49,6 +49,7 @@ pub data IsFor : ℕ → Action → Type 0 where
   ForSetFmmu : (t n : ℕ) (f : FmmuSettings) (start : ℕ) → IsFor t (SetFmmu t n f start)
   ForSend : (t counter : ℕ) (b : Mailbox) (r : SdoRequest) → IsFor t (SendRequest t counter b r)
   ForAwaitReply : (t : ℕ) (b : Mailbox) (r : SdoRequest) → IsFor t (AwaitReply t b r)
+  ForAwaitFreeReply : (t : ℕ) (b : Mailbox) (r : SdoRequest) → IsFor t (AwaitFreeReply t b r)
 
 -- such an action as a datagram: its datagram, and its ADO
 pub record IsOne (a : Action) (t : ℕ) (number : ℕ) : Type 0 where
@@ -74,6 +75,7 @@ as_one number (ForSetManager t n m r) = record { e = datagram_of (SetManager t n
 as_one number (ForSetFmmu t n f start) = record { e = datagram_of (SetFmmu t n f start) number; ado = 0x0600 + 16 * n; command = inr refl; address = refl; arrives = λ j d h. h; arrived = λ j d h. h; fits = λ i st h. h; fit = λ i st h. h; leads = λ i st. refl; is_other = λ i ne. ne; other = λ i o. o }
 as_one number (ForSend t counter b r) = record { e = datagram_of (SendRequest t counter b r) number; ado = b.receive_start; command = inr refl; address = refl; arrives = λ j d h. h; arrived = λ j d h. h; fits = λ i st h. h; fit = λ i st h. h; leads = λ i st. refl; is_other = λ i ne. ne; other = λ i o. o }
 as_one number (ForAwaitReply t b r) = record { e = datagram_of (AwaitReply t b r) number; ado = b.send_start; command = inl refl; address = refl; arrives = λ j d h. h; arrived = λ j d h. h; fits = λ i st h. h; fit = λ i st h. h; leads = λ i st. refl; is_other = λ i ne. ne; other = λ i o. o }
+as_one number (ForAwaitFreeReply t b r) = record { e = datagram_of (AwaitFreeReply t b r) number; ado = b.send_start; command = inl refl; address = refl; arrives = λ j d h. h; arrived = λ j d h. h; fits = λ i st h. h; fit = λ i st h. h; leads = λ i st. refl; is_other = λ i ne. ne; other = λ i o. o }
 
 pub others-stay : (t i : ℕ) (x y : Stage) → t ≢ i → if_mine t i x y ≡ y
 others-stay t i x y ne = if_false _ _ _ (ne_eqb t i ne)

@@ -1,5 +1,5 @@
 -- A poll of registers at the slave that it is for.
-use Rattle.ec_bringup.proofs.Words.{ℕ, ◌+◌, ◌*◌, ◌%◌, ◌<◌, ◌≤◌, ◌≡◌, ◌≢◌, ◌⊎◌, Bool, true, false, Option, None, refl, sym, ◌∙◌, ap, subst, inl, inr, arith, List, length, slice_index, bit_at, from_bool, eq-eqb, both_ways, or_left, zeros, if_true, any_below_from, SlaveKind, ram_start, takes_writes, Command, Fprd, Fpwr, Datagram, IsDatagram, adp_of, State, Init, PreOp, SafeOp, Op, state_number, role_of, is_reading, is_writing, is_joining, SlaveState, Meeting, station_of, Window, touches, physical_after, byte_at, byte_read, updated, may_read_byte, may_write_byte, some_byte_read, is_written, window_of, slave_met, datagram_met, OnlyReads, OnlyWrites, reads_meet, writes_meet, registers_open, registers_read, shows_itself, reads_by_byte, Action, AwaitState, AwaitWord, station, at, sent, Rise, Stays, Climbs, Config, Stage, Up, Talk, config_after, after, CanAct, IsClimbing, IsStepUp, IsConfigured, IsIn, StaysIn, Rises, IsSilent, Talks, IsUpAt, Reached, IsGone, IsFaulted, IsTop, HadFault, Stands, Untouched, MayEnd, Met, AwaitCleanInit, Falls, IsInInit, IsAtInit, is_missing, if_false, if◌then◌else◌}
+use Rattle.ec_bringup.proofs.Words.{ℕ, ◌+◌, ◌*◌, ◌%◌, ◌<◌, ◌≤◌, ◌≡◌, ◌≢◌, ◌⊎◌, Bool, true, false, Option, None, refl, sym, ◌∙◌, ap, subst, inl, inr, arith, List, length, slice_index, bit_at, from_bool, eq-eqb, both_ways, or_left, zeros, if_true, any_below_from, SlaveKind, ram_start, takes_writes, Command, Fprd, Fpwr, Datagram, IsDatagram, adp_of, State, Init, PreOp, SafeOp, Op, state_number, role_of, is_reading, is_writing, is_joining, SlaveState, Meeting, station_of, Window, touches, physical_after, byte_at, byte_read, updated, may_read_byte, may_write_byte, some_byte_read, is_written, window_of, slave_met, datagram_met, OnlyReads, OnlyWrites, reads_meet, writes_meet, registers_open, registers_read, shows_itself, reads_by_byte, Action, AwaitState, AwaitWord, station, at, sent, Rise, Stays, Climbs, Config, Stage, Up, Talk, config_after, after, CanAct, IsClimbing, IsStepUp, IsConfigured, IsIn, StaysIn, Rises, IsSilent, Talks, IsUpAt, Reached, IsGone, IsFaulted, IsTop, HadFault, Stands, Untouched, MayEnd, Met, AwaitCleanInit, Falls, IsInInit, IsAtInit, is_missing, if_false, if◌then◌else◌, IsEarly}
 use Rattle.ec_bringup.proofs.OneFrame.OtherSlaves.{IsOne, ForAwaitCleanInit, ForAwaitState, ForAwaitWord, Owes, as_one, mine-told}
 use Rattle.ec_bringup.proofs.OneFrame.RegisterWrites.{window-sent, own-writes, reads-on, gone-passes}
 use Rattle.ec_bringup.proofs.OneFrame.SetRegisters.{low-top}
@@ -91,10 +91,28 @@ known-configured : (i : ℕ) (c : Config) (b : Bool) (r : Rise) (s : SlaveState)
 known-configured i c b r s e k = record { station_is = k.station_is; settings = k.settings; fmmus = k.fmmus; idle = e; no_messages = k.no_messages; outputs = k.outputs }
 
 known-silent : (c : Config) (b : Bool) (r : Rise) (s : SlaveState) → IsSilent c s → IsSilent (record c { idle = b; rise = r }) s
-known-silent c b r s k = record { no_message = k.no_message; no_reply = k.no_reply; assigned = record { outs = k.assigned.outs; ins = k.assigned.ins } }
+known-silent c b r s k = record { no_message = k.no_message; no_reply = k.no_reply; assigned = record { outs = k.assigned.outs; ins = k.assigned.ins; came = k.assigned.came } }
 
 known-talks : (i : ℕ) (c : Config) (b : Bool) (r : Rise) (s : SlaveState) → c.talk ≡ None → Talks i c c.talk s → Talks i (record c { idle = b; rise = r }) c.talk s
 known-talks i c b r s none h = subst (λ (o : Option Talk). Talks i (record c { idle = b; rise = r }) o s) (sym none) (known-silent c b r s (subst (λ (o : Option Talk). Talks i c o s) none h))
+
+-- no step up leads to INIT
+past-init : (r : Rise) (to : State) → IsClimbing r to → IsEarly (Stays to) → ⊥
+past-init Falls to can e = can
+past-init (Stays from) to can e = can
+past-init (Climbs Init other) Init can e = can.0
+past-init (Climbs PreOp other) Init can e = can.0
+past-init (Climbs SafeOp other) Init can e = can.0
+past-init (Climbs Op other) Init can e = can.0
+past-init (Climbs from other) PreOp can e = e
+past-init (Climbs from other) SafeOp can e = e
+past-init (Climbs from other) Op can e = e
+
+-- and INIT is early
+init-early : (r : Rise) → IsAtInit r → IsEarly r
+init-early Falls at = tt
+init-early (Stays Init) at = tt
+init-early _ at = absurd at
 
 await-up : (i : ℕ) (c : Config) (to : State) (s : SlaveState) (d : Datagram) → c.talk ≡ None → IsClimbing c.rise to
     → slice_index d.data_bytes 0 ≡ byte_at s 0x0130 → MayEnd (AwaitState i to) d → IsUpAt i c s → IsUpAt i (record c { rise = Stays to }) s
@@ -106,6 +124,7 @@ await-up i c to s d none can e m u =
       unlocked = u.unlocked;
       rises = await-rises c.rise to s can k.0 k.1 u.rises;
       talks = known-talks i c c.idle (Stays to) s none u.talks;
+      early = λ e. absurd (past-init c.rise to can e);
       quiet = λ _. none;
     }
 
@@ -165,6 +184,7 @@ clean-up i c s d none at e m u =
       unlocked = u.unlocked;
       rises = clean-rises c.rise s at k u.rises;
       talks = known-talks i c c.idle (Stays Init) s none u.talks;
+      early = λ e. u.early (init-early c.rise at);
       quiet = λ _. none;
     }
 
@@ -200,6 +220,7 @@ word-up i c s which d none e f m u =
       unlocked = u.unlocked;
       rises = u.rises;
       talks = known-talks i c true c.rise s none u.talks;
+      early = u.early;
       quiet = λ _. none;
     }
 

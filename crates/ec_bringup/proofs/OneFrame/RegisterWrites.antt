@@ -1,6 +1,6 @@
 -- What a slave becomes by a datagram that writes registers.
-use Rattle.ec_bringup.proofs.Words.{ℕ, ◌≡◌, Bool, true, false, refl, sym, ◌∙◌, ap, arith, if◌then◌else◌, length, ◌+◌, ◌*◌, ◌/◌, ◌%◌, ◌<◌, ◌≤◌, ◌⊎◌, Option, None, subst, inl, inr, List, [], ◌∷◌, slice_index, SlaveKind, SyncManager, empty_manager, State, Al, requesting, SlaveState, manager_at, Meeting, station_of, power_on, Window, touches, is_configured, settings_written, physical_after, Wrote, set_by, OnlyWrites, IsOfKind, HoldsZeros, IsConfigured, Rises, IsSilent, Talks, IsUpAt, IsTop, Stands, eq-eqb, if_true, if_false, within_below, within_above, Command, Fpwr, Datagram, IsDatagram, adp_of, ado_of, Init, Op, state_number, Sii, written, role_of, adp_after, is_reading, is_writing, window_of, meets, slave_met, datagram_met, other_station_passes, control_word, Action, AskState, station, sent, Rise, Stays, Climbs, Config, Stage, Up, Talk, config_after, climbing, CanAct, CanClimb, writes_meet, goes_on, Untouched, ReadsOn, Arrives, MayRepeat, wrote, unconfigured, Fprd, Fprw, Falls, Hardware, is_missing, shown_fmmu, fmmu_bytes, fmmu_at}
-use Rattle.ec_bringup.proofs.OneSlave.Alike.{claims-alike, kind-kept}
+use Rattle.ec_bringup.proofs.Words.{ℕ, ◌≡◌, Bool, true, false, refl, sym, ◌∙◌, ap, arith, if◌then◌else◌, length, ◌+◌, ◌*◌, ◌/◌, ◌%◌, ◌<◌, ◌≤◌, ◌⊎◌, Option, None, subst, inl, inr, List, [], ◌∷◌, slice_index, SlaveKind, SyncManager, empty_manager, State, Al, requesting, SlaveState, manager_at, Meeting, station_of, power_on, Window, touches, is_configured, settings_written, physical_after, Wrote, set_by, OnlyWrites, IsOfKind, HoldsZeros, IsConfigured, Rises, IsSilent, Talks, IsUpAt, IsTop, Stands, eq-eqb, if_true, if_false, within_below, within_above, Command, Fpwr, Datagram, IsDatagram, adp_of, ado_of, Init, Op, state_number, Sii, written, role_of, adp_after, is_reading, is_writing, window_of, meets, slave_met, datagram_met, other_station_passes, control_word, Action, AskState, station, sent, Rise, Stays, Climbs, Config, Stage, Up, Talk, config_after, climbing, CanAct, CanClimb, writes_meet, goes_on, Untouched, ReadsOn, Arrives, MayRepeat, wrote, unconfigured, Fprd, Fprw, Falls, Hardware, is_missing, shown_fmmu, fmmu_bytes, fmmu_at, IsAssigned, IsEarly, PreOp, SafeOp, is_init, accesses_leave}
+use Rattle.ec_bringup.proofs.OneSlave.Alike.{SameObjects, assigned-same, left-same, kind-kept}
 use Rattle.ec_bringup.proofs.OneSlave.Lacking.{keeps-below}
 use Rattle.ec_bringup.proofs.OneFrame.OtherSlaves.{IsOne, ForAskState, station-zero, Owes, as_one, mine-told}
 
@@ -15,7 +15,7 @@ set-locked o w n m = elim (is_configured o w n) as (λ b. locked_of (if b then e
 
 -- a slave that was written is one
 pub slave-wrote : (kind : SlaveKind) (w : Window) (s t : SlaveState) → Wrote w s t → IsOfKind kind s → IsOfKind kind t
-slave-wrote kind w s t a h = kind-kept kind s t a.kind a.room a.count a.outs a.ins
+slave-wrote kind w s t a h = kind-kept kind s t a.kind a.room a.count a.outs a.ins a.values
     (λ e n l. ap (λ (m : SyncManager). m.locked) (a.managers n (let f = h.four in omega arith))
     ∙ (set-locked s.kind.hardware w n (manager_at s.managers n) ∙ h.unlocked_in_init (sym (state_by (touches w 0x0120)) ∙ (ap (λ (x : Al). x.state) (sym a.al) ∙ e)) n l))
     (λ b e. a.missing b (ap (λ (x : SlaveKind). is_missing x.hardware b) h.kind_is ∙ e)) h
@@ -23,6 +23,13 @@ slave-wrote kind w s t a h = kind-kept kind s t a.kind a.room a.count a.outs a.i
     state_by : (b : Bool) → state_of (if b then requesting s.al else s.al) ≡ s.al.state
     state_by true = refl
     state_by false = refl
+
+-- its dictionary stays
+pub objects-wrote : (w : Window) (s t : SlaveState) → Wrote w s t → t.identity ≡ s.identity → SameObjects s t
+objects-wrote w s t a e = record { kind = a.kind; identity = e; outs = a.outs; ins = a.ins; values = a.values }
+
+pub identity-wrote : (s : SlaveState) (w : Window) → (physical_after s false true w).identity ≡ s.identity
+identity-wrote s w = ap (λ (t : SlaveState). t.identity) (accesses_leave s w).written
 
 -- ---- a datagram of a start-up at the slave that it is for
 
@@ -132,24 +139,37 @@ ask-rises Falls state s t can w a h = (can, inl (record { state = ap (λ (x : Al
 ask-rises (Stays Init) state s t can w a h = (can, inl (record { state = ap (λ (x : Al). x.state) a ∙ h.state; request = ap (λ (x : Al). x.requested) a; control_is = w }))
 ask-rises _ state s t can w a h = (can, inl (record { state = ap (λ (x : Al). x.state) a ∙ h.state_is; request = ap (λ (x : Al). x.requested) a; control_is = w }))
 
-ask-silent : (c : Config) (r : Rise) (state : State) (s t : SlaveState) → Wrote (asking state) s t → length s.managers ≡ 4 → IsSilent c s → IsSilent (record c { rise = r }) t
-ask-silent c r state s t h four k = record {
-  no_message = ap (λ (m : SyncManager). m.mail) (ask-manager state s t 0 h four (omega arith)) ∙ k.no_message;
-  no_reply = ap (λ (m : SyncManager). m.mail) (ask-manager state s t 1 h four (omega arith)) ∙ k.no_reply;
-  assigned = record {
-    outs = claims-alike c.outs s.outs t.outs h.outs k.assigned.outs;
-    ins = claims-alike c.ins s.ins t.ins h.ins k.assigned.ins;
-  };
-}
+ask-al : (state : State) (s t : SlaveState) → Wrote (asking state) s t → t.al ≡ requesting s.al
+ask-al state s t h = h.al ∙ if_true (touches (asking state) 0x0120) (requesting s.al) s.al refl
 
-pub ask-up : (i : ℕ) (c : Config) (state : State) (s t : SlaveState) → Wrote (asking state) s t → length s.memory ≡ 0x3000 → length s.managers ≡ 4 → c.talk ≡ None → CanClimb c.rise state
+ask-silent : (c : Config) (r : Rise) (state : State) (s t : SlaveState) → Wrote (asking state) s t → t.identity ≡ s.identity → length s.managers ≡ 4 → IsSilent c s → IsSilent (record c { rise = r }) t
+ask-silent c r state s t h same four k =
+    let a : IsAssigned c t = assigned-same c s t (objects-wrote (asking state) s t h same) k.assigned in
+    record {
+      no_message = ap (λ (m : SyncManager). m.mail) (ask-manager state s t 0 h four (omega arith)) ∙ k.no_message;
+      no_reply = ap (λ (m : SyncManager). m.mail) (ask-manager state s t 1 h four (omega arith)) ∙ (k.no_reply
+          ∙ sym (left-same c (record c { rise = r }) s t h.kind (ap (λ (m : SyncManager). m.settings) (ask-manager state s t 1 h four (omega arith))) (ap (λ (x : Al). is_init x.state) (ask-al state s t h)) refl));
+      assigned = record { outs = a.outs; ins = a.ins; came = a.came };
+    }
+
+-- on the way up from INIT
+early-climb : (r : Rise) (state : State) → CanClimb r state → IsEarly (climbing r state) → IsEarly r
+early-climb Falls state can e = tt
+early-climb (Stays Init) state can e = tt
+early-climb (Stays PreOp) state can e = absurd e
+early-climb (Stays SafeOp) state can e = absurd e
+early-climb (Stays Op) state can e = absurd e
+early-climb (Climbs from other) state can e = absurd can
+
+pub ask-up : (i : ℕ) (c : Config) (state : State) (s t : SlaveState) → Wrote (asking state) s t → t.identity ≡ s.identity → length s.memory ≡ 0x3000 → length s.managers ≡ 4 → c.talk ≡ None → CanClimb c.rise state
     → IsUpAt i c s → IsUpAt i (record c { rise = climbing c.rise state }) t
-ask-up i c state s t h room four none can u = record {
+ask-up i c state s t h same room four none can u = record {
   configured = ask-configured i c state s t h room four u.configured;
   unlocked = λ n l. ap (λ (m : SyncManager). m.locked) (ask-manager state s t n h four l) ∙ u.unlocked n l;
-  rises = ask-rises c.rise state s t can (ask-control state s t h room) (h.al ∙ if_true (touches (asking state) 0x0120) (requesting s.al) s.al refl) u.rises;
+  rises = ask-rises c.rise state s t can (ask-control state s t h room) (ask-al state s t h) u.rises;
   talks = subst (λ (o : Option Talk). Talks i (record c { rise = climbing c.rise state }) o t) (sym none)
-      (ask-silent c (climbing c.rise state) state s t h four (subst (λ (o : Option Talk). Talks i c o s) none u.talks));
+      (ask-silent c (climbing c.rise state) state s t h same four (subst (λ (o : Option Talk). Talks i c o s) none u.talks));
+  early = λ e. u.early (early-climb c.rise state can e);
   quiet = λ _. none;
 }
 
@@ -164,5 +184,5 @@ pass-ask-state kind i c trouble state number d s l can good arrives h =
     pass-own kind i c trouble (AskState i state) number d s (asking state) (as_one number (ForAskState i state)) l refl (window-sent Fpwr (station i) 0x0120 (state_number state ∷ 0 ∷ []) number) (omega arith)
     (λ r. r) (low-top c.rise state can.1)
     (λ k u. slave-wrote kind (asking state) s (physical_after s false true (asking state)) (wrote s (asking state) (omega arith)) k)
-    (λ k u. ask-up i c state s (physical_after s false true (asking state)) (wrote s (asking state) (omega arith)) k.room k.four can.0 can.1 u)
+    (λ k u. ask-up i c state s (physical_after s false true (asking state)) (wrote s (asking state) (omega arith)) (identity-wrote s (asking state)) k.room k.four can.0 can.1 u)
     good arrives h

@@ -1,9 +1,9 @@
 -- Registers that are set at one slave: the SII command, a manager, an FMMU.
-use Rattle.ec_bringup.proofs.Words.{ℕ, ◌+◌, ◌-◌, ◌*◌, ◌<◌, ◌≤◌, ◌≡◌, ◌≢◌, Bool, true, false, Option, None, refl, sym, ◌∙◌, ap, subst, inl, inr, arith, if◌then◌else◌, List, length, slice_index, set, get_or-set_same, get_or-set_other, both_ways, cases_eq, cases_lt, or_left, or_right, within, if_true, if_false, within_true, within_below, within_above, SyncManagerSettings, FmmuSettings, SlaveKind, ram_start, is_stored, no_settings, manager_bytes, fmmu_bytes, no_fmmu, SyncManager, empty_manager, Fpwr, Datagram, IsDatagram, Init, PreOp, Sii, written, byte_for, commanded, addressed, address_written, read_command, SlaveState, manager_at, station_of, Window, physical_after, is_configured, settings_written, settings_at, fmmu_at, AskWord, SetManager, SetFmmu, station, word_address_of, Rise, Stays, Config, Up, Talk, CanAct, IsLow, HoldsZeros, IsConfigured, IsSilent, Talks, IsUpAt, IsTop, Rises, Claims, Wrote, set_by, wrote, unconfigured, Falls, Hardware, fmmu_count, shown_fmmu, manager_number, other_name, naming_manager, slaves_take_names, AreNumbered, ManagerRegister, register_of}
-use Rattle.ec_bringup.proofs.OneSlave.Alike.{claims-alike, rises-alike, word_of}
+use Rattle.ec_bringup.proofs.Words.{ℕ, ◌+◌, ◌-◌, ◌*◌, ◌<◌, ◌≤◌, ◌≡◌, ◌≢◌, Bool, true, false, Option, None, refl, sym, ◌∙◌, ap, subst, inl, inr, arith, if◌then◌else◌, List, length, slice_index, set, get_or-set_same, get_or-set_other, both_ways, cases_eq, cases_lt, or_left, or_right, within, if_true, if_false, within_true, within_below, within_above, SyncManagerSettings, FmmuSettings, SlaveKind, ram_start, is_stored, no_settings, manager_bytes, fmmu_bytes, no_fmmu, SyncManager, empty_manager, Fpwr, Datagram, IsDatagram, Init, PreOp, Sii, written, byte_for, commanded, addressed, address_written, read_command, SlaveState, manager_at, station_of, Window, physical_after, is_configured, settings_written, settings_at, fmmu_at, AskWord, SetManager, SetFmmu, station, word_address_of, Rise, Stays, Config, Up, Talk, CanAct, IsLow, HoldsZeros, IsConfigured, IsSilent, Talks, IsUpAt, IsTop, Rises, Claims, Wrote, set_by, wrote, unconfigured, Falls, Hardware, fmmu_count, shown_fmmu, manager_number, other_name, naming_manager, slaves_take_names, AreNumbered, ManagerRegister, register_of, cases_Bool, Al, IsAtInit, IsEarly, IsAssigned, is_init, left_to_say, dictionary_of, Came, SdoRequest}
+use Rattle.ec_bringup.proofs.OneSlave.Alike.{SameObjects, assigned-same, left-same, left-init, rises-alike, word_of}
 use Rattle.ec_bringup.proofs.OneSlave.Lacking.{keeps-there, has-own}
 use Rattle.ec_bringup.proofs.OneFrame.OtherSlaves.{ForAskWord, ForSetManager, ForSetFmmu, Owes, as_one}
-use Rattle.ec_bringup.proofs.OneFrame.RegisterWrites.{set-locked, slave-wrote, window-sent, pass-own}
+use Rattle.ec_bringup.proofs.OneFrame.RegisterWrites.{set-locked, slave-wrote, objects-wrote, identity-wrote, window-sent, pass-own}
 
 -- ---- what stays where neither the station address nor the AL control word is written
 
@@ -34,16 +34,19 @@ aside-busy w p l = by p.busy refl
     by false e = ap (λ (q : Sii). q.busy) (if_false _ _ _ e ∙ ap (λ (o : Option ℕ). commanded (addressed p (address_written p.address w.from w.bytes)) o) (if_none-byte (within_below w.from (length w.bytes) 0x0503 (omega (arith, l)))))
 
 -- the messages, where a slave is silent
-quiet-messages : (c d : Config) (s t : SlaveState) → d.outs ≡ c.outs → d.ins ≡ c.ins → ((n : ℕ) → n < 2 → (manager_at s.managers n).mail ≡ None → (manager_at t.managers n).mail ≡ None)
-    → t.outs ≡ s.outs → t.ins ≡ s.ins → IsSilent c s → IsSilent d t
-quiet-messages c d s t eo ei m a b h = record {
-  no_message = m 0 (omega arith) h.no_message;
-  no_reply = m 1 (omega arith) h.no_reply;
-  assigned = record {
-    outs = claims-alike d.outs s.outs t.outs a (subst (λ k. Claims k s.outs) (sym eo) h.assigned.outs);
-    ins = claims-alike d.ins s.ins t.ins b (subst (λ k. Claims k s.ins) (sym ei) h.assigned.ins);
-  };
-}
+quiet-messages : (c d : Config) (s t : SlaveState) → d.outs ≡ c.outs → d.ins ≡ c.ins → d.done ≡ c.done → ((manager_at s.managers 0).mail ≡ None → (manager_at t.managers 0).mail ≡ None)
+    → ((manager_at s.managers 1).mail ≡ left_to_say c s → (manager_at t.managers 1).mail ≡ left_to_say d t) → SameObjects s t → IsSilent c s → IsSilent d t
+quiet-messages c d s t eo ei ed m0 m1 same h =
+    let a : IsAssigned c t = assigned-same c s t same h.assigned in
+    record {
+      no_message = m0 h.no_message;
+      no_reply = m1 h.no_reply;
+      assigned = record {
+        outs = subst (λ k. Claims k t.outs) (sym eo) a.outs;
+        ins = subst (λ k. Claims k t.ins) (sym ei) a.ins;
+        came = subst (λ (rs : List SdoRequest). Came t.kind rs (dictionary_of t)) (sym ed) a.came;
+      };
+    }
 
 -- whatever the write does to a manager that is empty leaves it empty
 abbrev mail_of : SyncManager → Option (List ℕ)
@@ -52,21 +55,43 @@ mail_of m = m.mail
 set-mail : (o : Option Hardware) (w : Window) (n : ℕ) (m : SyncManager) → m.mail ≡ None → (set_by o w n m).mail ≡ None
 set-mail o w n m e = elim (is_configured o w n) as (λ b. mail_of (if b then empty_manager (settings_written o w n m) m.locked else m) ≡ None) [ true ↦ refl | false ↦ e ]
 
+-- what is left to say stays in manager 1, if that isn't set in PREOP
+left-set : (c d : Config) (s t : SlaveState) (w : Window) → Wrote w s t → length s.managers ≡ 4 → d.done ≡ c.done → t.al ≡ s.al → (is_configured s.kind.hardware w 1 ≡ true → s.al.state ≡ Init)
+    → (manager_at s.managers 1).mail ≡ left_to_say c s → (manager_at t.managers 1).mail ≡ left_to_say d t
+left-set c d s t w k four ed al init h = elim (cases_Bool (is_configured s.kind.hardware w 1)) [
+  | inl y ↦
+      let state = init y in
+      let none : (manager_at s.managers 1).mail ≡ None = h ∙ left-init c s state in
+      ap (λ (m : SyncManager). m.mail) (k.managers 1 (omega (arith, four)))
+      ∙ (set-mail s.kind.hardware w 1 (manager_at s.managers 1) none ∙ sym (left-init d t (ap (λ (x : Al). x.state) al ∙ state)))
+  | inr n ↦
+      let same : manager_at t.managers 1 ≡ manager_at s.managers 1 = k.managers 1 (omega (arith, four)) ∙ if_false _ _ _ n in
+      ap (λ (m : SyncManager). m.mail) same
+      ∙ (h ∙ sym (left-same c d s t k.kind (ap (λ (m : SyncManager). m.settings) same) (ap (λ (x : Al). is_init x.state) al) ed))
+]
+
 -- new settings leave zeros
 set-zeros : (o : Option Hardware) (w : Window) (n : ℕ) (m : SyncManager) → HoldsZeros m → HoldsZeros (set_by o w n m)
 set-zeros o w n m h = elim (is_configured o w n) as (λ b. HoldsZeros (if b then empty_manager (settings_written o w n m) m.locked else m)) [ true ↦ refl | false ↦ h ]
 
+-- in INIT
+pub at-init : (r : Rise) (s : SlaveState) → IsAtInit r → Rises r s → s.al.state ≡ Init
+at-init Falls s at h = h.state
+at-init (Stays Init) s at h = h.state
+at-init _ s at h = absurd at
+
 -- a slave that is silent, after registers were set: what is left to show is what they set
 pub set-up : (i : ℕ) (c d : Config) (s t : SlaveState) (w : Window) → Aside w → Wrote w s t → length s.memory ≡ 0x3000 → length s.managers ≡ 4 → c.talk ≡ None
-    → d.talk ≡ None → d.outs ≡ c.outs → d.ins ≡ c.ins → d.rise ≡ c.rise
+    → d.talk ≡ None → d.outs ≡ c.outs → d.ins ≡ c.ins → d.rise ≡ c.rise → d.done ≡ c.done → t.identity ≡ s.identity → (is_configured s.kind.hardware w 1 ≡ true → IsAtInit c.rise)
     → ((n : ℕ) → n < 4 → (manager_at t.managers n).settings ≡ settings_at d.managers n)
     → ((n k : ℕ) → n < 4 → k < 16 → slice_index t.memory (0x0600 + 16 * n + k) ≡ slice_index (fmmu_bytes (shown_fmmu t.kind.hardware (fmmu_at d.fmmus n))) k)
     → (d.idle ≡ true → t.sii.busy ≡ false)
     → IsUpAt i c s → IsUpAt i d t
-set-up i c d s t w h k room four none free eo ei er settings fmmus idle u =
+set-up i c d s t w h k room four none free eo ei er ed same_identity init settings fmmus idle u =
     let mail : (n : ℕ) → n < 4 → (manager_at s.managers n).mail ≡ None → (manager_at t.managers n).mail ≡ None
     = λ n l e. ap (λ (m : SyncManager). m.mail) (k.managers n (omega (arith, four, l))) ∙ set-mail s.kind.hardware w n (manager_at s.managers n) e in
     let silent : IsSilent c s = subst (λ (o : Option Talk). Talks i c o s) none u.talks in
+    let al : t.al ≡ s.al = k.al ∙ if_false _ _ _ (within_below w.from (length w.bytes) 0x0120 (omega (arith, h.from))) in
     record {
       configured = record {
         station_is = aside-station w s t h k room ∙ u.configured.station_is;
@@ -77,9 +102,10 @@ set-up i c d s t w h k room four none free eo ei er settings fmmus idle u =
         outputs = subst HoldsZeros (sym (k.managers 2 (omega (arith, four)))) (set-zeros s.kind.hardware w 2 (manager_at s.managers 2) u.configured.outputs);
       };
       unlocked = λ n l. ap (λ (m : SyncManager). m.locked) (k.managers n (omega (arith, four, l))) ∙ (set-locked s.kind.hardware w n (manager_at s.managers n) ∙ u.unlocked n l);
-      rises = subst (λ (r : Rise). Rises r t) (sym er) (rises-alike c.rise s t k.kind (aside-word w s t h k room) (k.al ∙ if_false _ _ _ (within_below w.from (length w.bytes) 0x0120 (omega (arith, h.from)))) u.rises);
+      rises = subst (λ (r : Rise). Rises r t) (sym er) (rises-alike c.rise s t k.kind (aside-word w s t h k room) al u.rises);
       talks = subst (λ (o : Option Talk). Talks i d o t) (sym free)
-          (quiet-messages c d s t eo ei (λ n l e. mail n (omega (arith, l)) e) k.outs k.ins silent);
+          (quiet-messages c d s t eo ei ed (λ e. mail 0 (omega arith) e) (left-set c d s t w k four ed al (λ y. at-init c.rise s (init y) u.rises)) (objects-wrote w s t k same_identity) silent);
+      early = λ e. let q = u.early (subst IsEarly er e) in (free, ed ∙ q.1);
       quiet = λ _. free;
     }
 
@@ -112,7 +138,8 @@ pass-ask-word kind i which c trouble number d s l can good arrives h =
     pass-own kind i c trouble (AskWord i which) number d s (reading which) (as_one number (ForAskWord i which)) l refl (window-sent Fpwr (station i) 0x0502 (read_command (word_address_of which)) number) (omega arith)
     (λ r. r) (low-top c.rise can.0)
     (λ q u. slave-wrote kind (reading which) s (physical_after s false true (reading which)) k q)
-    (λ q u. set-up i c (record c { idle = false }) s (physical_after s false true (reading which)) (reading which) (record { from = omega arith; registers = inside }) k q.room q.four can.1 can.1 refl refl refl
+    (λ q u. set-up i c (record c { idle = false }) s (physical_after s false true (reading which)) (reading which) (record { from = omega arith; registers = inside }) k q.room q.four can.1 can.1 refl refl refl refl (identity-wrote s (reading which))
+    (λ y. absurd (both_ways _ (unconfigured s.kind.hardware (reading which) 1 (inl (omega (arith, n6)))) y))
     (λ n b. same-settings c i (reading which) s (physical_after s false true (reading which)) n k q.four b (unconfigured s.kind.hardware (reading which) n (inl (omega (arith, n6)))) u.configured)
     (λ n b x y. k.untouched (0x0600 + 16 * n + b) (let f = q.room in omega (arith, f, x, y)) (within_above 0x0502 (length (reading which).bytes) (0x0600 + 16 * n + b) (omega (arith, n6)))
     ∙ (u.configured.fmmus n b x y ∙ shown-same c s (physical_after s false true (reading which)) n b k.kind))
@@ -175,7 +202,8 @@ pass-set-fmmu kind i n f start c trouble number d s l can named has good arrives
     (window-sent Fpwr (station i) (0x0600 + 16 * n) (fmmu_bytes (record f { physical_start = start })) number ∙ ap (mapping n) same) (omega (arith, b4))
     (λ r. r) (low-top c.rise can.0)
     (λ q u. slave-wrote kind w s (physical_after s false true w) k q)
-    (λ q u. set-up i c (record c { fmmus = set c.fmmus n f }) s (physical_after s false true w) w (record { from = omega arith; registers = omega (arith, b4) }) k q.room q.four can.3 can.3 refl refl refl
+    (λ q u. set-up i c (record c { fmmus = set c.fmmus n f }) s (physical_after s false true w) w (record { from = omega arith; registers = omega (arith, b4) }) k q.room q.four can.3 can.3 refl refl refl refl (identity-wrote s w)
+    (λ y. absurd (both_ways _ (unconfigured s.kind.hardware w 1 (inl (omega (arith, b4)))) y))
     (λ j x. same-settings c i w s (physical_after s false true w) j k q.four x (unconfigured s.kind.hardware w j (inl (omega (arith, b4)))) u.configured)
     (set-fmmus n f c i s (physical_after s false true w) k q.room b4 there can.1 u.configured)
     (λ e. ap (λ (p : Sii). p.busy) k.sii ∙ (aside-busy w s.sii (omega arith) ∙ u.configured.idle e)) u)
@@ -214,7 +242,11 @@ pass-set-manager kind i n m r c trouble number d s l can named numbered good arr
     ∙ ap (λ (x : ManagerRegister). record { from = 0x0800 + 8 * x.number; bytes = manager_bytes (record m { start = x.start }) }) same) (omega (arith, low))
     (λ r. r) (low-top c.rise can.0)
     (λ q u. slave-wrote kind w s (physical_after s false true w) k q)
-    (λ q u. set-up i c (record c { managers = set c.managers n m }) s (physical_after s false true w) w (record { from = omega arith; registers = omega (arith, at) }) k q.room q.four can.3 can.3 refl refl refl
+    (λ q u. set-up i c (record c { managers = set c.managers n m }) s (physical_after s false true w) w (record { from = omega arith; registers = omega (arith, at) }) k q.room q.four can.3 can.3 refl refl refl refl (identity-wrote s w)
+    (λ y. elim (cases_lt n 2) [
+      | inl f ↦ can.4 f
+      | inr f ↦ absurd (both_ways _ ((slaves_take_names s n numbers b4).others m 1 (omega arith) (λ z. omega (arith, z, f))) y)
+    ])
     (set-managers n m c i s (physical_after s false true w) numbers k q.four b4 can.1 u.configured)
     (λ j b x y. k.untouched (0x0600 + 16 * j + b) (let f = q.room in omega (arith, f, x, y)) (within_below (0x0800 + 8 * manager_number s.kind.hardware n) 8 (0x0600 + 16 * j + b) (omega (arith, x, y)))
     ∙ (u.configured.fmmus j b x y ∙ shown-same c s (physical_after s false true w) j b k.kind))

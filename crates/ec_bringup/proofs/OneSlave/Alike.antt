@@ -1,5 +1,5 @@
 -- Slaves that differ in nothing that a start-up knows of.
-use Rattle.ec_bringup.proofs.Words.{ℕ, ◌+◌, ◌*◌, ◌<◌, ◌≡◌, Bool, false, Option, Some, None, refl, sym, ◌∙◌, ap, subst, inl, inr, arith, List, length, slice_index, SlaveKind, SyncManagerSettings, emptied_buffer, SyncManager, buffer_length, State, Init, Al, SlaveState, manager_at, station_of, Assignment, all_assigned, Rise, Falls, Stays, Climbs, Claim, Talk, Config, Stage, Before, Called, Down, Lowered, Up, answered, HasFallen, IsLoweredAt, is_missing, has_firmware, shown_fmmu, fmmu_bytes, fmmu_at, both_ways, true, Hardware, nat_le, nat_lt, ltb-true, and_parts, IsOfKind, unviewed, HoldsZeros, IsConfigured, IsAssigned, Claims, IsSilent, Talks, IsInInit, IsIn, StaysIn, Rises, IsUpAt, AreClear, IsDownAt, Reached, IsGone, HadFault, Stands, IsFaultedAt, power_on, set, length-set, cases_eq, get_or-set_same, get_or-set_other, no_manager, IsUp}
+use Rattle.ec_bringup.proofs.Words.{ℕ, ◌+◌, ◌*◌, ◌<◌, ◌≡◌, Bool, false, Option, Some, None, refl, sym, ◌∙◌, ap, subst, inl, inr, arith, List, length, slice_index, SlaveKind, SyncManagerSettings, emptied_buffer, SyncManager, buffer_length, State, Init, Al, SlaveState, manager_at, station_of, Assignment, all_assigned, Rise, Falls, Stays, Climbs, Claim, Talk, Config, Stage, Before, Called, Down, Lowered, Up, answered, HasFallen, IsLoweredAt, is_missing, has_firmware, shown_fmmu, fmmu_bytes, fmmu_at, both_ways, true, Hardware, nat_le, nat_lt, ltb-true, and_parts, IsOfKind, unviewed, HoldsZeros, IsConfigured, IsAssigned, Claims, IsSilent, Talks, IsInInit, IsIn, StaysIn, Rises, IsUpAt, AreClear, IsDownAt, Reached, IsGone, HadFault, Stands, IsFaultedAt, power_on, set, length-set, cases_eq, get_or-set_same, get_or-set_other, no_manager, IsUp, ◌||◌, if◌then◌else◌, if_true, or_left, or_right, ◌⊎◌, Identity, SdoValue, SdoRequest, Dictionary, dictionary_of, is_init, has_some, sizes_of, IsDictionary, Came, greeting_of, left_to_say}
 
 -- the control word in a memory
 abbrev pub word_of : List ℕ → ℕ
@@ -45,6 +45,42 @@ set-front ms n m l front same = record {
   ];
 }
 
+-- its dictionary
+pub record SameObjects (s t : SlaveState) : Type 0 where
+  pub kind : t.kind ≡ s.kind
+  pub identity : t.identity ≡ s.identity
+  pub outs : t.outs ≡ s.outs
+  pub ins : t.ins ≡ s.ins
+  pub values : t.values ≡ s.values
+
+pub objects-refl : (s : SlaveState) → SameObjects s s
+objects-refl s = record { kind = refl; identity = refl; outs = refl; ins = refl; values = refl }
+
+pub dictionary-same : (s t : SlaveState) → SameObjects s t → dictionary_of t ≡ dictionary_of s
+dictionary-same s t h =
+    ap (λ (x : SlaveKind). record { kind = x; identity = t.identity; outs = t.outs; ins = t.ins; values = t.values }) h.kind
+    ∙ (ap (λ (x : Identity). record { kind = s.kind; identity = x; outs = t.outs; ins = t.ins; values = t.values }) h.identity
+    ∙ (ap (λ (x : Assignment). record { kind = s.kind; identity = s.identity; outs = x; ins = t.ins; values = t.values }) h.outs
+    ∙ (ap (λ (x : Assignment). record { kind = s.kind; identity = s.identity; outs = s.outs; ins = x; values = t.values }) h.ins
+    ∙ ap (λ (x : List SdoValue). record { kind = s.kind; identity = s.identity; outs = s.outs; ins = s.ins; values = x }) h.values)))
+
+pub came-same : (rs : List SdoRequest) (s t : SlaveState) → SameObjects s t → Came s.kind rs (dictionary_of s) → Came t.kind rs (dictionary_of t)
+came-same rs s t h c =
+    subst (λ (k : SlaveKind). Came k rs (dictionary_of t)) (sym h.kind) (subst (λ (d : Dictionary). Came s.kind rs d) (sym (dictionary-same s t h)) c)
+
+-- what a slave has
+pub of-type : (kind : SlaveKind) (s : SlaveState) → IsOfKind kind s → IsDictionary kind (dictionary_of s)
+of-type kind s h = record {
+  kind_is = h.kind_is;
+  outs = h.outs;
+  ins = h.ins;
+  fixed = λ e. let f = h.fixed e in (f.outs ∙ ap (λ (k : SlaveKind). all_assigned k.outputs) h.kind_is, f.ins ∙ ap (λ (k : SlaveKind). all_assigned k.inputs) h.kind_is);
+  sizes = h.sizes;
+}
+
+pub of-own-type : (kind : SlaveKind) (s : SlaveState) → IsOfKind kind s → IsDictionary s.kind (dictionary_of s)
+of-own-type kind s h = subst (λ (k : SlaveKind). IsDictionary k (dictionary_of s)) (sym h.kind_is) (of-type kind s h)
+
 -- all but the AL state machine, the inputs, the view of the outputs, and an SII that becomes idle
 pub record Alike (s t : SlaveState) : Type 0 where
   pub kind : t.kind ≡ s.kind
@@ -53,8 +89,7 @@ pub record Alike (s t : SlaveState) : Type 0 where
   pub memory : (a : ℕ) → a < 0x0800 → slice_index t.memory a ≡ slice_index s.memory a
   pub managers : SameFronts s.managers t.managers
   pub idle : s.sii.busy ≡ false → t.sii.busy ≡ false
-  pub outs : t.outs ≡ s.outs
-  pub ins : t.ins ≡ s.ins
+  pub objects : SameObjects s t
 
 pub station-alike : (s t : SlaveState) → Alike s t → station_of t ≡ station_of s
 station-alike s t a = ap (λ (x : ℕ). x + 256 * slice_index t.memory 0x0011) (a.memory 0x0010 (omega arith)) ∙ ap (λ (x : ℕ). slice_index s.memory 0x0010 + 256 * x) (a.memory 0x0011 (omega arith))
@@ -63,10 +98,10 @@ pub word-alike : (s t : SlaveState) → Alike s t → word_of t.memory ≡ word_
 word-alike s t a = ap (λ (x : ℕ). x + 256 * slice_index t.memory 0x0121) (a.memory 0x0120 (omega arith)) ∙ ap (λ (x : ℕ). slice_index s.memory 0x0120 + 256 * x) (a.memory 0x0121 (omega arith))
 
 -- a slave of a type stays one where its type, its sizes and its assignments stay, and where INIT unlocks its managers
-pub kind-kept : (kind : SlaveKind) (s t : SlaveState) → t.kind ≡ s.kind → length t.memory ≡ length s.memory → length t.managers ≡ length s.managers → t.outs ≡ s.outs → t.ins ≡ s.ins
+pub kind-kept : (kind : SlaveKind) (s t : SlaveState) → t.kind ≡ s.kind → length t.memory ≡ length s.memory → length t.managers ≡ length s.managers → t.outs ≡ s.outs → t.ins ≡ s.ins → t.values ≡ s.values
     → (t.al.state ≡ Init → (n : ℕ) → n < 4 → (manager_at t.managers n).locked ≡ false)
     → ((a : ℕ) → is_missing kind.hardware a ≡ true → slice_index t.memory a ≡ slice_index s.memory a) → IsOfKind kind s → IsOfKind kind t
-kind-kept kind s t same room count outs ins unlocked missing h = record {
+kind-kept kind s t same room count outs ins values unlocked missing h = record {
   kind_is = same ∙ h.kind_is;
   room = room ∙ h.room;
   four = count ∙ h.four;
@@ -76,6 +111,7 @@ kind-kept kind s t same room count outs ins unlocked missing h = record {
     outs = outs ∙ (f.outs ∙ ap (λ (k : SlaveKind). all_assigned k.outputs) (sym same));
     ins = ins ∙ (f.ins ∙ ap (λ (k : SlaveKind). all_assigned k.inputs) (sym same));
   };
+  sizes = ap sizes_of values ∙ h.sizes;
   unlocked_in_init = unlocked;
   missing = λ a e. missing a e ∙ h.missing a e;
 }
@@ -86,7 +122,7 @@ missing-low None a e = absurd (both_ways false refl e)
 missing-low (Some h) a e = let b = ltb-true a 0x0640 ((and_parts (nat_le (0x0600 + 16 * h.fmmus) a) (nat_lt a 0x0640) e).1) in omega (arith, b)
 
 pub slave-alike : (kind : SlaveKind) (s t : SlaveState) → Alike s t → (t.al.state ≡ Init → s.al.state ≡ Init) → IsOfKind kind s → IsOfKind kind t
-slave-alike kind s t a init h = kind-kept kind s t a.kind a.room a.managers.four a.outs a.ins (λ e n l. (a.managers.each n).locked ∙ h.unlocked_in_init (init e) n l)
+slave-alike kind s t a init h = kind-kept kind s t a.kind a.room a.managers.four a.objects.outs a.objects.ins a.objects.values (λ e n l. (a.managers.each n).locked ∙ h.unlocked_in_init (init e) n l)
     (λ b e. a.memory b (missing-low kind.hardware b e)) h
 
 zeros-alike : (s t : SlaveState) → Alike s t → HoldsZeros (manager_at s.managers 2) → HoldsZeros (manager_at t.managers 2)
@@ -106,43 +142,76 @@ configured-alike i c s t a h = record {
 pub claims-alike : (c : Claim) (a b : Assignment) → b ≡ a → Claims c a → Claims c b
 claims-alike c a b e h = subst (Claims c) (sym e) h
 
-pub assigned-alike : (c : Config) (s t : SlaveState) → Alike s t → IsAssigned c s → IsAssigned c t
-assigned-alike c s t a h = record {
+pub assigned-same : (c : Config) (s t : SlaveState) → SameObjects s t → IsAssigned c s → IsAssigned c t
+assigned-same c s t a h = record {
   outs = claims-alike c.outs s.outs t.outs a.outs h.outs;
   ins = claims-alike c.ins s.ins t.ins a.ins h.ins;
+  came = came-same c.done s t a h.came;
 }
 
-pub silent-alike : (c : Config) (s t : SlaveState) → Alike s t → IsSilent c s → IsSilent c t
-silent-alike c s t a h = record {
+pub assigned-alike : (c : Config) (s t : SlaveState) → Alike s t → IsAssigned c s → IsAssigned c t
+assigned-alike c s t a h = assigned-same c s t a.objects h
+
+-- ---- what it has still to say
+
+-- as long as it is in INIT, or isn't
+pub left-same : (c d : Config) (s t : SlaveState) → t.kind ≡ s.kind → (manager_at t.managers 1).settings ≡ (manager_at s.managers 1).settings → is_init t.al.state ≡ is_init s.al.state → d.done ≡ c.done
+    → left_to_say d t ≡ left_to_say c s
+left-same c d s t k m i e =
+    ap (λ (rs : List SdoRequest). if has_some rs || is_init t.al.state then None else greeting_of t.kind (manager_at t.managers 1).settings) e
+    ∙ (ap (λ (b : Bool). if has_some c.done || b then None else greeting_of t.kind (manager_at t.managers 1).settings) i
+    ∙ (ap (λ (x : SlaveKind). if has_some c.done || is_init s.al.state then None else greeting_of x (manager_at t.managers 1).settings) k
+    ∙ ap (λ (x : SyncManagerSettings). if has_some c.done || is_init s.al.state then None else greeting_of s.kind x) m))
+
+-- in INIT it has nothing to say
+pub left-init : (c : Config) (s : SlaveState) → s.al.state ≡ Init → left_to_say c s ≡ None
+left-init c s e = if_true (has_some c.done || is_init s.al.state) None (greeting_of s.kind (manager_at s.managers 1).settings) (or_right (has_some c.done) (is_init s.al.state) (ap is_init e))
+
+-- nor once a reply of it was read
+pub left-done : (c : Config) (s : SlaveState) → has_some c.done ≡ true → left_to_say c s ≡ None
+left-done c s e = if_true (has_some c.done || is_init s.al.state) None (greeting_of s.kind (manager_at s.managers 1).settings) (or_left (has_some c.done) (is_init s.al.state) e)
+
+pub left-alike : (c : Config) (s t : SlaveState) → Alike s t → is_init t.al.state ≡ is_init s.al.state → left_to_say c t ≡ left_to_say c s
+left-alike c s t a i = left-same c c s t a.kind (a.managers.each 1).settings i refl
+
+pub silent-alike : (c : Config) (s t : SlaveState) → Alike s t → is_init t.al.state ≡ is_init s.al.state → IsSilent c s → IsSilent c t
+silent-alike c s t a i h = record {
   no_message = (a.managers.each 0).mail ∙ h.no_message;
-  no_reply = (a.managers.each 1).mail ∙ h.no_reply;
+  no_reply = (a.managers.each 1).mail ∙ (h.no_reply ∙ sym (left-alike c s t a i));
   assigned = assigned-alike c s t a h.assigned;
 }
 
-pub talks-alike : (i : ℕ) (c : Config) (o : Option Talk) (s t : SlaveState) → Alike s t → Talks i c o s → Talks i c o t
-talks-alike i c None s t a h = silent-alike c s t a h
-talks-alike i c (Some k) s t a (inl h) = inl (record {
+-- nothing, or that, lies in a manager
+pub said-on : (x y : Option (List ℕ)) (a b : Option (List ℕ)) → y ≡ x → b ≡ a → (x ≡ None) ⊎ (x ≡ a) → (y ≡ None) ⊎ (y ≡ b)
+said-on x y a b e f (inl h) = inl (e ∙ h)
+said-on x y a b e f (inr h) = inr (e ∙ (h ∙ sym f))
+
+pub talks-alike : (i : ℕ) (c : Config) (o : Option Talk) (s t : SlaveState) → Alike s t → is_init t.al.state ≡ is_init s.al.state → Talks i c o s → Talks i c o t
+talks-alike i c None s t a q h = silent-alike c s t a q h
+talks-alike i c (Some k) s t a q (inl h) = inl (record {
   mailboxes = h.mailboxes;
   request = h.request;
   mailbox_message = (a.managers.each 0).mail ∙ h.mailbox_message;
-  no_reply = (a.managers.each 1).mail ∙ h.no_reply;
+  no_reply = said-on _ _ _ _ (a.managers.each 1).mail (left-alike c s t a q) h.no_reply;
   assigned = assigned-alike c s t a h.assigned;
 })
-talks-alike i c (Some k) s t a (inr h) = inr (record {
+talks-alike i c (Some k) s t a q (inr h) = inr (record {
   mailboxes = h.mailboxes;
   whole = h.whole;
   no_message = (a.managers.each 0).mail ∙ h.no_message;
   raw = h.raw;
   reply = (a.managers.each 1).mail ∙ h.reply;
-  done = λ e. assigned-alike (answered c k.request) s t a (h.done e);
+  plain = h.plain;
+  done = λ hardware e. assigned-alike (answered c k.request) s t a (h.done hardware e);
 })
 
-pub up-rest : (i : ℕ) (c : Config) (s t : SlaveState) → Alike s t → Rises c.rise t → IsUpAt i c s → IsUpAt i c t
-up-rest i c s t a r h = record {
+pub up-rest : (i : ℕ) (c : Config) (s t : SlaveState) → Alike s t → is_init t.al.state ≡ is_init s.al.state → Rises c.rise t → IsUpAt i c s → IsUpAt i c t
+up-rest i c s t a q r h = record {
   configured = configured-alike i c s t a h.configured;
   unlocked = λ n l. (a.managers.each n).locked ∙ h.unlocked n l;
   rises = r;
-  talks = talks-alike i c c.talk s t a h.talks;
+  talks = talks-alike i c c.talk s t a q h.talks;
+  early = h.early;
   quiet = h.quiet;
 }
 
@@ -219,7 +288,7 @@ reached-alike i Called s t a e (inl h) = inl (ap (λ (x : Al). x.requested) e �
 reached-alike i Called s t a e (inr h) = inr (fallen-alike s t a.kind (word-alike s t a) e h)
 reached-alike i (Down f m) s t a e h = down-rest f m s t a (init-alike s t a.kind (word-alike s t a) e h.init) h
 reached-alike i (Lowered f m) s t a e h = lowered-rest f m s t a (fallen-alike s t a.kind (word-alike s t a) e h.low) h
-reached-alike i (Up c) s t a e h = up-rest i c s t a (rises-alike c.rise s t a.kind (word-alike s t a) e h.rises) h
+reached-alike i (Up c) s t a e h = up-rest i c s t a (ap (λ (x : Al). is_init x.state) e) (rises-alike c.rise s t a.kind (word-alike s t a) e h.rises) h
 
 pub faulted-alike : (i : ℕ) (st : Stage) (s t : SlaveState) → Alike s t → t.al ≡ s.al → HadFault i st s → HadFault i st t
 faulted-alike i (Up c) s t a e h = let k = h.faulted in record {
@@ -227,7 +296,7 @@ faulted-alike i (Up c) s t a e h = let k = h.faulted in record {
   quiet = h.quiet;
   faulted = record {
     configured = configured-alike i c s t a k.configured;
-    silent = silent-alike c s t a k.silent;
+    silent = silent-alike c s t a (ap (λ (x : Al). is_init x.state) e) k.silent;
     state = ap (λ (x : Al). x.state) e ∙ k.state;
     error = ap (λ (x : Al). x.error) e ∙ k.error;
     no_request = ap (λ (x : Al). x.requested) e ∙ k.no_request;

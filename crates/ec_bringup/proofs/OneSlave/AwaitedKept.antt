@@ -1,7 +1,7 @@
 -- Outputs that aren't awaited stay so while a slave is in SAFEOP or OP: a firmware step awaits them only as SAFEOP is entered.
-use Rattle.ec_bringup.proofs.Words.{ℕ, ◌≡◌, ◌⊎◌, Bool, false, Option, Some, None, sym, ◌∙◌, ap, subst, inl, inr, arith, List, cases_Bool, Hardware, SlaveKind, SyncManager, manager_at, SlaveState, Al, State, Init, PreOp, SafeOp, Op, served, request_decided, read_finished, three_parts, messages_keep, finished, requests_decided, al_decided, is_awaiting, has_outputs, outputs_awaited, managers_entered, Rise, Falls, Stays, Climbs, Config, Up, Rises, IsUpAt, IsOfKind, IsGone, station_of, station}
+use Rattle.ec_bringup.proofs.Words.{ℕ, ◌≡◌, ◌⊎◌, Bool, false, Option, Some, None, sym, ◌∙◌, ap, subst, inl, inr, arith, List, cases_Bool, Hardware, SlaveKind, SyncManager, manager_at, SlaveState, Al, State, Init, PreOp, SafeOp, Op, served, request_decided, read_finished, three_parts, messages_keep, finished, requests_decided, al_decided, is_awaiting, has_outputs, outputs_awaited, managers_entered, Rise, Falls, Stays, Climbs, Config, Up, Rises, IsUpAt, IsOfKind, IsGone, station_of, station, is_slow, greets_by, managers_decided, replies_decided}
 use Rattle.ec_bringup.proofs.OneFrame.OtherSlaves.{station-zero}
-use Rattle.ec_bringup.proofs.OneSlave.AlRequest.{Climbed, Granted, Refused, decided-up, decided-is, waits-none}
+use Rattle.ec_bringup.proofs.OneSlave.AlRequest.{Climbed, Granted, Refused, decided-up, decided-is, waits-none, waits-slow, put-others}
 use Rattle.ec_bringup.proofs.Script.FedSteps.{IsRunning}
 
 -- from SAFEOP nothing new is awaited
@@ -31,14 +31,18 @@ module _ (s : SlaveState) where
   decided : (r : Rise) → IsRunning r → Rises r s → Off s → Off (request_decided s)
   decided (Stays SafeOp) run g h = rests g.no_request h
   decided (Stays Op) run g h = rests g.no_request h
-  decided (Climbs SafeOp Op) run (up, inl g) h = elim (cases_Bool (is_awaiting s.kind.hardware s)) [
-    | inl w ↦ subst Off (sym ((requests_decided s).awaits w)) h
-    | inr w ↦
-        let a : Al = al_decided s.kind.hardware s in
-        let d : Climbed SafeOp Op a = decided-up s.kind.hardware s SafeOp Op up g.state g.control_is in
-        subst Off (sym (decided-is s g.request w))
-        (subst (λ (old : State). (manager_at (outputs_awaited s.kind.hardware (has_outputs s) old a.state (managers_entered old a.state s.managers)) 2).awaited ≡ false) (sym g.state)
-        (entered s.kind.hardware (has_outputs s) a.state s.managers (after a d) h))
+  decided (Climbs SafeOp Op) run (up, inl g) h = elim (cases_Bool (is_slow s.kind.hardware s)) [
+    | inl q ↦ subst Off (sym (waits-slow s g.request q)) h
+    | inr q ↦ elim (cases_Bool (is_awaiting s.kind.hardware s)) [
+      | inl w ↦ subst Off (sym ((requests_decided s).awaits q w)) h
+      | inr w ↦
+          let a : Al = al_decided s.kind.hardware s in
+          let d : Climbed SafeOp Op a = decided-up s.kind.hardware s SafeOp Op up g.state g.control_is in
+          subst Off (sym (decided-is s g.request q w))
+          (ap (λ (m : SyncManager). m.awaited) (put-others (greets_by s a) (replies_decided s a) 2 (managers_decided s a) (λ e. omega (arith, e)))
+          ∙ subst (λ (old : State). (manager_at (outputs_awaited s.kind.hardware (has_outputs s) old a.state (managers_entered old a.state s.managers)) 2).awaited ≡ false) (sym g.state)
+          (entered s.kind.hardware (has_outputs s) a.state s.managers (after a d) h))
+    ]
   ]
   decided (Climbs SafeOp Op) run (up, inr (inl g)) h = rests g.no_request h
   decided (Climbs SafeOp Op) run (up, inr (inr g)) h = rests g.no_request h

@@ -1,7 +1,7 @@
 -- A slave without outputs awaits none in SAFEOP: that is so from INIT on, whatever frames come and however it serves.
-use Rattle.ec_bringup.proofs.Words.{ℕ, ◌<◌, ◌≡◌, ◌==◌, ◌&&◌, Bool, true, false, Option, Some, refl, sym, ◌∙◌, ap, subst, inl, inr, arith, if◌then◌else◌, List, length, set, get_or-set_same, nat_lt, cases_Bool, both_ways, eqb-true, Hardware, SlaveKind, SyncManager, no_manager, manager_at, awaiting, Assignment, assigned, bits_assigned, SlaveState, Al, State, Init, PreOp, SafeOp, Op, Datagram, slave_met, served, request_decided, read_finished, three_parts, messages_keep, finished, requests_decided, with_al, al_decided, is_awaiting, has_outputs, outputs_awaited, managers_entered, inside_kept, settings_kept, zeros_published, length-set, Stage, Before, Called, Down, Lowered, Up, after, Fits, Stands, Action, CountSlaves, AskInit, AwaitInit, ClearFmmus, ClearManagers, ClearStations, NameSlave, AskWord, AwaitWord, SetManager, SetFmmu, AskState, AwaitState, SendRequest, AwaitReply, AwaitInitState, ClearAllFmmus, ClearAllManagers, AssignSii, ClearSiiError, AwaitCleanInit, FeedPart}
+use Rattle.ec_bringup.proofs.Words.{ℕ, ◌<◌, ◌≡◌, ◌==◌, ◌&&◌, Bool, true, false, Option, Some, refl, sym, ◌∙◌, ap, subst, inl, inr, arith, if◌then◌else◌, List, length, set, get_or-set_same, nat_lt, cases_Bool, both_ways, eqb-true, Hardware, SlaveKind, SyncManager, no_manager, manager_at, awaiting, Assignment, assigned, bits_assigned, SlaveState, Al, State, Init, PreOp, SafeOp, Op, Datagram, slave_met, served, request_decided, read_finished, three_parts, messages_keep, finished, requests_decided, with_al, al_decided, is_awaiting, has_outputs, outputs_awaited, managers_entered, inside_kept, settings_kept, zeros_published, length-set, Stage, Before, Called, Down, Lowered, Up, after, Fits, Stands, Action, CountSlaves, AskInit, AwaitInit, ClearFmmus, ClearManagers, ClearStations, NameSlave, AskWord, AwaitWord, SetManager, SetFmmu, AskState, AwaitState, SendRequest, AwaitReply, AwaitFreeReply, AwaitInitState, ClearAllFmmus, ClearAllManagers, AssignSii, ClearSiiError, AwaitCleanInit, FeedPart, is_slow, waiting, greets_by, managers_decided, replies_decided}
 use Rattle.ec_slave.proofs.FirmwareRuns.ServesKeepAssignments.{assignments_served}
-use Rattle.ec_bringup.proofs.OneSlave.AlRequest.{decided-is, waits-none}
+use Rattle.ec_bringup.proofs.OneSlave.AlRequest.{decided-is, waits-none, waits-slow, put-others}
 use Rattle.ec_bringup.proofs.OneSlave.MailboxServed.{stands-served}
 
 pub record Dry (s : SlaveState) : Type 0 where
@@ -71,16 +71,22 @@ module _ (s : SlaveState) (four : length s.managers ≡ 4) (dry : Dry s) where
   decided-off : (h : Hardware) → s.kind.hardware ≡ Some h → x.al.state ≡ SafeOp → has_outputs s ≡ false → (manager_at x.managers 2).awaited ≡ false
   decided-off h hw safe none = elim (cases_Bool s.al.requested) [
     | inr rests ↦ still (waits-none s rests)
-    | inl asks ↦ elim (cases_Bool (is_awaiting s.kind.hardware s)) [
-      | inl w ↦ still ((requests_decided s).awaits w)
-      | inr w ↦
-          let a : Al = al_decided s.kind.hardware s in
-          let is : x ≡ with_al s a = decided-is s asks w in
-          let new : a.state ≡ SafeOp = sym (ap (λ (y : SlaveState). y.al.state) is) ∙ safe in
-          subst (λ (y : SlaveState). (manager_at y.managers 2).awaited ≡ false) (sym is)
-          (subst (λ (o : Option Hardware). (manager_at (outputs_awaited o (has_outputs s) s.al.state a.state (managers_entered s.al.state a.state s.managers)) 2).awaited ≡ false) (sym hw)
-          (subst (λ (n : State). (manager_at (outputs_awaited (Some h) (has_outputs s) s.al.state n (managers_entered s.al.state n s.managers)) 2).awaited ≡ false) (sym new)
-          (entered h (has_outputs s) s.al.state s.managers (let e = entered-length s.al.state s.managers four in omega (arith, e)) none (λ e. dry.off h hw e none))))
+    | inl asks ↦ elim (cases_Bool (is_slow s.kind.hardware s)) [
+      | inl q ↦
+          let is : x ≡ record s { al = waiting s.al } = waits-slow s asks q in
+          ap (λ (y : SlaveState). (manager_at y.managers 2).awaited) is ∙ dry.off h hw (sym (ap (λ (y : SlaveState). y.al.state) is) ∙ safe) none
+      | inr q ↦ elim (cases_Bool (is_awaiting s.kind.hardware s)) [
+        | inl w ↦ still ((requests_decided s).awaits q w)
+        | inr w ↦
+            let a : Al = al_decided s.kind.hardware s in
+            let is : x ≡ with_al s a = decided-is s asks q w in
+            let new : a.state ≡ SafeOp = sym (ap (λ (y : SlaveState). y.al.state) is) ∙ safe in
+            ap (λ (y : SlaveState). (manager_at y.managers 2).awaited) is
+            ∙ (ap (λ (m : SyncManager). m.awaited) (put-others (greets_by s a) (replies_decided s a) 2 (managers_decided s a) (λ e. omega (arith, e)))
+            ∙ subst (λ (o : Option Hardware). (manager_at (outputs_awaited o (has_outputs s) s.al.state a.state (managers_entered s.al.state a.state s.managers)) 2).awaited ≡ false) (sym hw)
+            (subst (λ (n : State). (manager_at (outputs_awaited (Some h) (has_outputs s) s.al.state n (managers_entered s.al.state n s.managers)) 2).awaited ≡ false) (sym new)
+            (entered h (has_outputs s) s.al.state s.managers (let e = entered-length s.al.state s.managers four in omega (arith, e)) none (λ e. dry.off h hw e none))))
+      ]
     ]
   ]
     where
@@ -171,6 +177,8 @@ not-yet i Before (SendRequest t counter b r) early f h = f.1
 not-yet i Called (SendRequest t counter b r) early f h = f.1
 not-yet i Before (AwaitReply t b r) early f h = f.1
 not-yet i Called (AwaitReply t b r) early f h = f.1
+not-yet i Before (AwaitFreeReply t b r) early f h = f.1
+not-yet i Called (AwaitFreeReply t b r) early f h = f.1
 not-yet i (Down x m) a early f h = early
 not-yet i (Lowered x m) a early f h = early
 not-yet i (Up c) a early f h = early

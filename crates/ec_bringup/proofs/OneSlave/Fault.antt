@@ -1,7 +1,7 @@
 -- A fault of a slave that stands at a stage, and what its application reads and writes.
-use Rattle.ec_bringup.proofs.Words.{ℕ, ◌<◌, ◌≡◌, ◌≢◌, ◌⊎◌, Bool, true, false, Option, Some, None, refl, sym, ◌∙◌, ap, subst, inl, inr, arith, if◌then◌else◌, List, length, set, unwrap_or, option_map, nat_lt, ◌==◌, length-set, get_or-set_same, get_or-set_other, cases_Bool, cases_eq, both_ways, if_true, if_false, SlaveKind, Buffer, Got, view_next, app_written, app_read, SyncManager, no_manager, may_app_put, may_app_get, app_put, app_got, Init, PreOp, SafeOp, Op, Al, SlaveState, manager_at, is_running, with_manager, input_put, output_got, output_taken, faults, switched_on, faulted, locked_empty, Rise, Falls, Stays, Climbs, Config, Stage, Before, Called, Down, Lowered, Up, Talk, unviewed, HoldsZeros, IsOfKind, Rises, IsSilent, Talks, IsUpAt, Reached, IsGone, IsFaulted, IsTop, HadFault, Stands}
+use Rattle.ec_bringup.proofs.Words.{ℕ, ◌<◌, ◌≡◌, ◌≢◌, ◌⊎◌, Bool, true, false, Option, Some, None, refl, sym, ◌∙◌, ap, subst, inl, inr, arith, if◌then◌else◌, List, length, set, unwrap_or, option_map, nat_lt, ◌==◌, length-set, get_or-set_same, get_or-set_other, cases_Bool, cases_eq, both_ways, if_true, if_false, SlaveKind, Buffer, Got, view_next, app_written, app_read, SyncManager, no_manager, may_app_put, may_app_get, app_put, app_got, Init, PreOp, SafeOp, Op, Al, SlaveState, manager_at, is_running, with_manager, input_put, output_got, output_taken, faults, switched_on, faulted, locked_empty, Rise, Falls, Stays, Climbs, Config, Stage, Before, Called, Down, Lowered, Up, Talk, unviewed, HoldsZeros, IsOfKind, Rises, IsSilent, Talks, IsUpAt, Reached, IsGone, IsFaulted, IsTop, HadFault, Stands, is_init}
 use Rattle.ec_al.specs.Al as al
-use Rattle.ec_bringup.proofs.OneSlave.Alike.{Alike, stands-alike, gone-on, had-fault, set-front}
+use Rattle.ec_bringup.proofs.OneSlave.Alike.{Alike, assigned-same, left-same, stands-alike, gone-on, had-fault, set-front}
 
 -- ---- a fault
 
@@ -17,6 +17,9 @@ settings_two ms n l = elim (cases_eq n 2) [
   | inr ne ↦ ap (λ (m : SyncManager). m.settings) (at_two ms n l ne)
 ]
 
+mail_other : (ms : List SyncManager) (n : ℕ) → 2 < length ms → n ≢ 2 → (manager_at (set ms 2 (locked_empty (manager_at ms 2))) n).mail ≡ (manager_at ms n).mail
+mail_other ms n l ne = ap (λ (m : SyncManager). m.mail) (at_two ms n l ne)
+
 mail_two : (ms : List SyncManager) (n : ℕ) → 2 < length ms → (manager_at ms n).mail ≡ None → (manager_at (set ms 2 (locked_empty (manager_at ms 2))) n).mail ≡ None
 mail_two ms n l h = elim (cases_eq n 2) [
   | inl e ↦ subst (λ (k : ℕ). (manager_at (set ms 2 (locked_empty (manager_at ms 2))) k).mail ≡ None) (sym e) (ap (λ (m : SyncManager). m.mail) (own_two ms l))
@@ -27,7 +30,7 @@ mail_two ms n l h = elim (cases_eq n 2) [
 abbrev with_fault : SlaveState → SlaveState
 with_fault s = record s { al = al.faulted s.al; managers = set s.managers 2 (locked_empty (manager_at s.managers 2)) }
 
-al-is : (a : Al) → a.state ≡ Op → al.faulted a ≡ record { state = SafeOp; error = true; code = 1; requested = a.requested }
+al-is : (a : Al) → a.state ≡ Op → al.faulted a ≡ record { state = SafeOp; error = true; code = 1; requested = a.requested; waited = a.waited }
 al-is a e = if_true _ _ _ (ap al.is_operational e)
 
 fault-slave : (kind : SlaveKind) (s : SlaveState) → s.al.state ≡ Op → IsOfKind kind s → IsOfKind kind (with_fault s)
@@ -38,6 +41,7 @@ fault-slave kind s e h = record {
   outs = h.outs;
   ins = h.ins;
   fixed = λ q. let g = h.fixed q in record { outs = g.outs; ins = g.ins };
+  sizes = h.sizes;
   unlocked_in_init = λ q n l. absurd (cc (ap (λ (x : Al). x.state) (sym (al-is s.al e)) ∙ q));
   missing = h.missing;
 }
@@ -60,8 +64,8 @@ fault-at i c s e l quiet top u =
         };
         silent = record {
           no_message = mail_two s.managers 0 two silent.no_message;
-          no_reply = mail_two s.managers 1 two silent.no_reply;
-          assigned = record { outs = silent.assigned.outs; ins = silent.assigned.ins };
+          no_reply = mail_other s.managers 1 two (λ q. omega (arith, q)) ∙ (silent.no_reply ∙ sym (left-same c c s (with_fault s) refl (settings_two s.managers 1 two) (ap (λ (x : Al). is_init x.state) (al-is s.al e) ∙ ap is_init (sym e)) refl));
+          assigned = assigned-same c s (with_fault s) (record { kind = refl; identity = refl; outs = refl; ins = refl; values = refl }) silent.assigned;
         };
         state = ap (λ (x : Al). x.state) (al-is s.al e);
         error = ap (λ (x : Al). x.error) (al-is s.al e);
@@ -120,8 +124,7 @@ buffer-alike s n b l same = record {
   memory = λ a k. refl;
   managers = set-front s.managers n (record (manager_at s.managers n) { buffer = b }) l (record { settings = refl; locked = refl; mail = refl }) same;
   idle = λ e. e;
-  outs = refl;
-  ins = refl;
+  objects = record { kind = refl; identity = refl; outs = refl; ins = refl; values = refl };
 }
 
 -- it changes one buffer, of a slave that runs, or nothing

@@ -1,5 +1,8 @@
 -- A slave that is reset stands where it stood, if it has no station address yet, and else is gone.
-use Rattle.ec_bringup.proofs.Words.{ℕ, zero, suc, ◌+◌, ◌≡◌, ◌⊎◌, Bool, true, refl, sym, ◌∙◌, ap, subst, inl, inr, List, [], ◌∷◌, length, get_or, both_ways, length-map, zeros, Identity, Pdo, SlaveKind, SyncManager, no_manager, Assignment, all_assigned, Al, manager_at, power_on, switched_on, Stage, Before, Called, Down, Lowered, Up, IsOfKind, HoldsZeros, IsInInit, HasFallen, AreClear, IsDownAt, IsLoweredAt, Reached, IsGone, HadFault, Stands}
+use Rattle.ec_bringup.proofs.Words.{ℕ, zero, suc, ◌+◌, ◌≡◌, ◌⊎◌, Bool, true, refl, sym, ◌∙◌, ap, subst, inl, inr, List, [], ◌∷◌, length, get_or, both_ways, length-map, zeros, Identity, Pdo, SlaveKind, SyncManager, no_manager, Assignment, all_assigned, Al, manager_at, power_on, switched_on, Stage, Before, Called, Down, Lowered, Up, IsOfKind, HoldsZeros, IsInInit, HasFallen, AreClear, IsDownAt, IsLoweredAt, Reached, IsGone, HadFault, Stands, map, Dictionary, size_number, Parameter, byte_count, sizes_of, sizes_in}
+use Rattle.ec_device.specs.declared.parameter.ParameterSize.{ParameterSize}
+use Rattle.ec_device.specs.declared.parameter.ParameterSize.TheVariants.{One as OneByte, Two as TwoBytes, Four as FourBytes}
+use Rattle.ec_coe.specs.SwitchedOn.{bare_dictionary, first_value, value_size}
 
 pub get_or-zeros : (n k : ℕ) → get_or (zeros n) k 0 ≡ 0
 get_or-zeros zero k = refl
@@ -9,6 +12,17 @@ get_or-zeros (suc n) (suc k) = get_or-zeros n k
 empty_at : (n : ℕ) → manager_at (no_manager ∷ no_manager ∷ no_manager ∷ no_manager ∷ []) n ≡ no_manager
 empty_at (suc (suc (suc (suc n)))) = refl
 empty_at _ = refl
+
+-- the values of the parameters have their sizes
+size-is : (z : ParameterSize) → size_number (value_size z) ≡ byte_count z
+size-is OneByte = refl
+size-is TwoBytes = refl
+size-is FourBytes = refl
+
+first-sizes : (d : Dictionary) (qs : List Parameter) → sizes_of (map (first_value d) qs) ≡ sizes_in qs
+first-sizes d [] = refl
+first-sizes d (q ∷ qs) =
+    ap (λ (n : ℕ). n ∷ sizes_of (map (first_value d) qs)) (size-is q.size) ∙ ap (λ (ns : List ℕ). byte_count q.size ∷ ns) (first-sizes d qs)
 
 pub power_on_is : (kind : SlaveKind) (identity : Identity) → IsOfKind kind (power_on kind identity)
 power_on_is kind identity =
@@ -22,6 +36,7 @@ power_on_is kind identity =
         outs = on.outs ∙ ap (λ (k : SlaveKind). all_assigned k.outputs) (sym on.kind_is);
         ins = on.ins ∙ ap (λ (k : SlaveKind). all_assigned k.inputs) (sym on.kind_is);
       };
+      sizes = ap sizes_of on.values ∙ first-sizes (bare_dictionary kind identity) kind.init;
       unlocked_in_init = λ _ n l. ap (λ (ms : List SyncManager). (manager_at ms n).locked) on.managers ∙ ap (λ (m : SyncManager). m.locked) (empty_at n);
       missing = λ a e. on.memory a;
     }

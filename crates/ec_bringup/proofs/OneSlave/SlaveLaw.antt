@@ -27,5 +27,5 @@ for-others kind i t ado st trouble s d li lt ne up h good c a = one-passes kind 
 pub slave-law : SlaveLaw
 slave-law kind s d h =
     let k = inside_kept s d in
-    kind-kept kind s (slave_met s d) k.kind k.room k.count k.outs k.ins (λ e n l. k.locked n ∙ h.unlocked_in_init (sym k.state ∙ e) n l)
+    kind-kept kind s (slave_met s d) k.kind k.room k.count k.outs k.ins k.values (λ e n l. k.locked n ∙ h.unlocked_in_init (sym k.state ∙ e) n l)
     (λ a e. k.missing a (ap (λ (x : SlaveKind). is_missing x.hardware a) h.kind_is ∙ e)) h

@@ -1,8 +1,8 @@
 -- The checks of the AL state machine pass at a slave that was set as the plan says.
-use Rattle.ec_bringup.proofs.Words.{ℕ, ◌/◌, ◌%◌, ◌<◌, ◌≡◌, ◌==◌, ◌&&◌, not, true, false, Option, Some, None, refl, sym, ◌∙◌, ap, subst, inl, inr, arith, List, [], ◌∷◌, take, cases_Bool, eq-eqb, eqb-true, and_from, and_parts, bytes_of_bits, if_true, if_false, SyncManagerSettings, Mailbox, no_settings, is_set, is_mailbox, is_master_written, is_master_read, SlaveKind, PreOp, SafeOp, SyncManager, SlaveState, manager_at, bits_assigned, checks, is_manager, mailbox_check, process_check, SlavePlan, settings_at, prepared, asked_all, AreMailboxes, IsStartable, IsAssigned, IsComplete, carries, requests, ◌+◌, Action, AwaitCleanInit, AskWord, AwaitWord, AskState, SendRequest, SdoRequest, Stays, Config, answered, end_of, has_outputs, IsOfKind, nat_lt}
+use Rattle.ec_bringup.proofs.Words.{ℕ, ◌/◌, ◌%◌, ◌<◌, ◌≡◌, ◌==◌, ◌&&◌, not, true, false, Option, Some, None, refl, sym, ◌∙◌, ap, subst, inl, inr, arith, List, [], ◌∷◌, take, cases_Bool, eq-eqb, eqb-true, and_from, and_parts, bytes_of_bits, if_true, if_false, SyncManagerSettings, Mailbox, no_settings, is_set, is_mailbox, is_master_written, is_master_read, SlaveKind, PreOp, SafeOp, SyncManager, SlaveState, manager_at, bits_assigned, checks, is_manager, mailbox_check, process_check, SlavePlan, settings_at, prepared, asked_all, AreMailboxes, IsStartable, IsAssigned, IsComplete, carries, requests, ◌+◌, Action, AwaitCleanInit, AskWord, AwaitWord, AskState, AwaitState, SendRequest, AwaitReply, AwaitFreeReply, reply_awaited, ParametersAgree, has_some, State, Falls, Bool, is_some, length, ◌++◌, SdoRequest, Stays, Config, answered, end_of, has_outputs, IsOfKind, nat_lt}
 use Rattle.ec_bringup.proofs.Mailbox.Assignments.{assignment-held}
-use Rattle.ec_bringup.proofs.Script.Walks.{Bearing, IsEasy, AllSent, answered-frame, boxed, mapped_to}
-use Rattle.ec_bringup.proofs.AllSlaves.NextAction.{Grants, Bears}
+use Rattle.ec_bringup.proofs.Script.Walks.{Bearing, BearsUp, IsEasy, AllSent, talking, asked-frame, answered-frame, answered-done, boxed, mapped_to}
+use Rattle.ec_bringup.proofs.AllSlaves.NextAction.{Grants, Bears, Talkable}
 use Rattle.ec_bringup.proofs.Mailbox.RequestsAnswered.{AllAnswers, requests-answered}
 
 -- ---- the mailboxes
@@ -52,7 +52,7 @@ process-right x m bits start control e u h = elim (cases_Bool (bits == 0)) [
 
 pub safeop-granted : (p : SlavePlan) → IsStartable p → IsComplete p → Grants p.kind (mapped_to (asked_all (prepared p) p p.kind.mailbox) p) SafeOp
 safeop-granted p h v s k =
-    let a : IsAssigned (asked_all (prepared p) p p.kind.mailbox) s = record { outs = k.outs; ins = k.ins } in
+    let a : IsAssigned (asked_all (prepared p) p p.kind.mailbox) s = record { outs = k.assigned.outs; ins = k.assigned.ins; came = k.assigned.came } in
     let held = assignment-held p p.kind.mailbox s refl h k.slave a in
     let kind = k.slave.kind_is in
     let out_bits : bits_assigned s.kind.outputs (take s.outs.count s.outs.slots) ≡ bits_assigned p.kind.outputs p.outputs
@@ -74,30 +74,74 @@ easy-bears kind c (AskWord t which) h = h
 easy-bears kind c (AwaitWord t which) h = h
 easy-bears kind c (AwaitCleanInit t) h = absurd h
 easy-bears kind c (AskState t to) h = absurd h
+easy-bears kind c (AwaitState t to) h = absurd h
 easy-bears kind c (SendRequest t counter b r) h = absurd h
+easy-bears kind c (AwaitReply t b r) h = absurd h
+easy-bears kind c (AwaitFreeReply t b r) h = absurd h
 easy-bears kind c _ h = tt
 
-answers-sent : (kind : SlaveKind) (i counter : ℕ) (b : Mailbox) (c : Config) (rs : List SdoRequest) → c.rise ≡ Stays PreOp → c.idle ≡ true → kind.mailbox ≡ Some b → AllAnswers kind c rs
-    → AllSent (Bears kind) i counter b c rs
-answers-sent kind i counter b c [] rise idle boxed h = tt
-answers-sent kind i counter b c (r ∷ rs) rise idle boxed h =
-    let a = answered-frame c r r.transfer in
-    (record { rise = rise; idle = idle; box = b; boxed = boxed; good = h.0 }, answers-sent kind i (counter + 1) b (answered c r) rs (a.rise ∙ rise) (a.idle ∙ idle) boxed h.1)
+one-longer : (rs : List SdoRequest) (r : SdoRequest) → length (rs ++ r ∷ []) ≡ length rs + 1
+one-longer [] r = refl
+one-longer (x ∷ rs) r = let e = one-longer rs r in omega (arith, e)
 
-pub bears-all : (i : ℕ) (p : SlavePlan) → IsStartable p → IsComplete p → Bearing (Bears p.kind) i p
-bears-all i p h v = record {
+-- a wait for a reply asks what its request asked
+reply-bears : (kind : SlaveKind) (hardware : Bool) (i counter : ℕ) (b : Mailbox) (c : Config) (r : SdoRequest) → Talkable kind c r → Bears kind (talking c counter b r) (reply_awaited hardware i b r)
+reply-bears kind hardware i counter b c r z = by hardware
+  where
+    waits : Talkable kind (talking c counter b r) r
+    waits = record {
+      rise = z.rise;
+      idle = z.idle;
+      box = z.box;
+      boxed = z.boxed;
+      good = λ h plain d m n knows. z.good h plain d m n (record { of_type = knows.of_type; outs = knows.outs; ins = knows.ins; came = knows.came });
+    }
+
+    by : (h : Bool) → Bears kind (talking c counter b r) (reply_awaited h i b r)
+    by true = waits
+    by false = waits
+
+answers-sent : (kind : SlaveKind) (hardware : Bool) (i counter : ℕ) (b : Mailbox) (c : Config) (rs : List SdoRequest) → c.rise ≡ Stays PreOp → c.idle ≡ true → kind.mailbox ≡ Some b → counter ≡ length c.done → AllAnswers kind c rs
+    → AllSent (Bears kind) hardware i counter b c rs
+answers-sent kind hardware i counter b c [] rise idle boxed count h = tt
+answers-sent kind hardware i counter b c (r ∷ rs) rise idle boxed count h =
+    let a = answered-frame (record c { done = c.done ++ r ∷ [] }) r r.transfer in
+    let z : Talkable kind c r = record { rise = rise; idle = idle; box = b; boxed = boxed; good = h.0 } in
+    let more : counter + 1 ≡ length (answered c r).done = ap (λ (n : ℕ). n + 1) count ∙ (sym (one-longer c.done r) ∙ ap length (sym (answered-done c r))) in (
+      (z, count),
+      reply-bears kind hardware i counter b c r z,
+      answers-sent kind hardware i (counter + 1) b (answered c r) rs (a.rise ∙ rise) (a.idle ∙ idle) boxed more h.1,
+    )
+
+-- without a request that is refused
+never-falls : (state : State) (P : Type 0) → Stays state ≡ Falls → P
+never-falls state P e = absurd (cc e)
+
+safeop-up : (i : ℕ) (p : SlavePlan) → IsStartable p → IsComplete p → BearsUp (Bears p.kind) i (mapped_to (asked_all (prepared p) p p.kind.mailbox) p) SafeOp
+safeop-up i p h v =
+    let low : (asked_all (prepared p) p p.kind.mailbox).rise ≡ Stays PreOp = (asked-frame p p.kind.mailbox).rise in (
+      (safeop-granted p h v, λ e. never-falls PreOp _ (sym low ∙ e)),
+      λ s k. safeop-granted p h v s (record { slave = k.slave; settings = k.settings; unlocked = k.unlocked; assigned = record { outs = k.assigned.outs; ins = k.assigned.ins; came = k.assigned.came } }),
+    )
+
+pub bears-all : (i : ℕ) (p : SlavePlan) → IsStartable p → IsComplete p → (has_some p.kind.init ≡ true → ParametersAgree p) → Bearing (Bears p.kind) i p
+bears-all i p h v agree = record {
   easy = easy-bears p.kind;
   clean = λ c f. f;
-  to_preop = λ r s k. preop-granted p h s (record { slave = k.slave; settings = k.settings; unlocked = k.unlocked; outs = k.outs; ins = k.ins });
-  sends = λ b e. answers-sent p.kind i 0 b (prepared p) (requests p) refl refl e (requests-answered p v);
-  to_safeop = safeop-granted p h v;
-  to_op = λ s k. tt;
+  to_preop = λ r bare. (
+    (λ s k. preop-granted p h s (record { slave = k.slave; settings = k.settings; unlocked = k.unlocked; assigned = record { outs = k.assigned.outs; ins = k.assigned.ins; came = k.assigned.came } }), bare),
+    λ s k. preop-granted p h s (record { slave = k.slave; settings = k.settings; unlocked = k.unlocked; assigned = record { outs = k.assigned.outs; ins = k.assigned.ins; came = k.assigned.came } }),
+  );
+  sends = λ b e. answers-sent p.kind (is_some p.kind.hardware) i 0 b (prepared p) (requests p) refl refl e refl
+      (requests-answered p (record { complete = v; requests = h.requests; all = h.all_assigned; agree = agree }));
+  to_safeop = safeop-up i p h v;
+  to_op = ((λ s k. tt, λ e. never-falls SafeOp _ e), λ s k. tt);
 }
 
 -- a slave of a plan without output bits has no outputs, once its assignment is the plan's
 pub no-outputs : (p : SlavePlan) → IsStartable p → IsComplete p → (s : SlaveState) → IsOfKind p.kind s → IsAssigned (end_of p) s → p.share.outs ≡ 0 → has_outputs s ≡ false
 no-outputs p h v s of a none =
-    let held = assignment-held p p.kind.mailbox s refl h of (record { outs = a.outs; ins = a.ins }) in
+    let held = assignment-held p p.kind.mailbox s refl h of (record { outs = a.outs; ins = a.ins; came = a.came }) in
     let bits : bits_assigned s.kind.outputs (take s.outs.count s.outs.slots) ≡ 0
     = ap (λ (t : SlaveKind). bits_assigned t.outputs (take s.outs.count s.outs.slots)) of.kind_is ∙ (ap (bits_assigned p.kind.outputs) held.0 ∙ v.no_out_bits none) in
     ap (λ (n : ℕ). nat_lt 0 n) bits

@@ -1,6 +1,7 @@
 -- The plan of a table without faults is complete: an undisturbed start-up of it ends Ready.
-use Rattle.ec_bringup.proofs.Words.{◌≡◌, ◌≢◌, ℕ, zero, suc, Bool, ◌%◌, ◌<◌, ◌≤◌, ◌==◌, ◌&&◌, ◌⊎◌, true, false, List, [], ◌∷◌, length, get_or, refl, sym, ap, ◌∙◌, subst, arith, inl, inr, Some, None, Option, eqb, All, Contains, cases_Bool, eq-eqb, ne_eqb, false≢true, bytes_of_bits, SyncManagerSettings, Mailbox, Entry, Pdo, FmmuSettings, no_fmmu, run_settings, no_settings, area_settings, is_set, SlaveKind, IsEntry, IsMailbox, ArePdos, first_output_index, first_input_index, indices_of, SlavePlan, process_manager, fmmus_of, manager_of, AreManagers, IsOfItsType, plan_of, IsUsable, listed, slaves_are_of_their_types, plan_usable, fmmu_at, IsFmmu, IsStartable, startable, link_slave_at as slave_at, pdo_at, bits_assigned, contains, distinct, CompiledPlansLaw, IsNumbered, CanReach, IsOffered, AreOffered, IsAssignable, IsComplete, carries, cases_eq, if_true, if_false, is_some, is_hardware}
-use Rattle.ec_device.specs.Hardware.{out_manager, in_manager}
+use Rattle.ec_bringup.proofs.Words.{◌≡◌, ◌≢◌, ℕ, zero, suc, Bool, ◌%◌, ◌<◌, ◌≤◌, ◌==◌, ◌&&◌, ◌⊎◌, true, false, List, [], ◌∷◌, length, get_or, refl, sym, ap, ◌∙◌, subst, arith, inl, inr, Some, None, Option, eqb, All, Contains, cases_Bool, eq-eqb, ne_eqb, false≢true, bytes_of_bits, SyncManagerSettings, Mailbox, Entry, Pdo, FmmuSettings, no_fmmu, run_settings, no_settings, area_settings, is_set, SlaveKind, IsEntry, IsMailbox, ArePdos, first_output_index, first_input_index, indices_of, SlavePlan, process_manager, fmmus_of, manager_of, AreManagers, IsOfItsType, plan_of, IsUsable, listed, slaves_are_of_their_types, plan_usable, fmmu_at, IsFmmu, IsStartable, startable, link_slave_at as slave_at, pdo_at, bits_assigned, contains, distinct, CompiledPlansLaw, IsNumbered, CanReach, IsOffered, AreOffered, IsAssignable, IsComplete, carries, cases_eq, if_true, if_false, is_some, is_hardware, Hardware, slow}
+use Rattle.std.specs.Option.{ForSome}
+use Rattle.ec_device.specs.Hardware.{IsHardware, is_assignable, out_manager, in_manager}
 use Rattle.ec_link.specs.Sizes.{HasRoom}
 use Rattle.ec_link.specs.Meaning.{no_slave}
 use Rattle.ec_link.proofs.MappedBits.{room_law}
@@ -40,7 +41,7 @@ once-distinct (x ∷ xs) h =
     rw off (once-distinct xs (λ i j d a b. h (suc i) (suc j) d (omega (arith, a)) (omega (arith, b))))
 
 assignable : (kind : SlaveKind) (ps : List Pdo) (xs : List ℕ) → ((x : ℕ) (p : Pdo) → pdo_at ps x ≡ Some p → IsOffered kind ps x) → length ps ≤ 16
-    → table.IsAssignment kind.mailbox ps xs → length xs ≤ length ps → bits_assigned ps xs ≤ 2048 → IsAssignable kind ps xs
+    → table.IsAssignment (is_assignable kind.mailbox kind.hardware) ps xs → length xs ≤ length ps → bits_assigned ps xs ≤ 2048 → IsAssignable kind ps xs
 assignable kind ps xs f few a no_more bits = record { offered = offered kind ps xs f a.known; apart = once-distinct xs a.once; few = no_more; short = omega (arith, no_more, few); bits = bits }
 
 -- ---- a manager
@@ -99,6 +100,11 @@ numbered e h n = let a = h.few in let b = n.index in let c = n.subindex in omega
 pub all-numbered : (first : ℕ) (ps : List Pdo) → ArePdos first ps → All (λ (q : Pdo). All table.HasName q.entries) ps → All (λ (q : Pdo). All IsNumbered q.entries) ps
 all-numbered first ps h n k d l j e b = numbered (get_or (get_or ps k d).entries j e) ((h.each k d l).entries j e b) (n k d l j e b)
 
+-- what its type says of real devices
+slow-few : (m : Option Mailbox) (o : Option Hardware) → ForSome o (IsHardware m) → slow o ≤ 100
+slow-few m None h = omega arith
+slow-few m (Some x) h = (h x refl).slow
+
 complete : (x : SlavePlan) → AreManagers x → IsOfItsType x → IsComplete x
 complete x ms type =
     let limits = type.limits in
@@ -112,6 +118,8 @@ complete x ms type =
       reach = reached x.kind.mailbox limits.mailbox type.starts;
       outs = assignable x.kind x.kind.outputs x.outputs (λ i p e. offers-output x.kind i p limits (all-numbered first_output_index x.kind.outputs limits.outputs type.out_names) e) limits.outputs.few type.outputs type.few_outputs out_bits;
       ins = assignable x.kind x.kind.inputs x.inputs (λ i p e. offers-input x.kind i p limits (all-numbered first_input_index x.kind.inputs limits.inputs type.in_names) e) limits.inputs.few type.inputs type.few_inputs in_bits;
+      plain = λ e. type.plain (ap is_some e);
+      slow = slow-few x.kind.mailbox x.kind.hardware type.hardware;
       no_out_bits = λ z. let r = out_room.room in omega (arith, r, z);
       out_carried = carries-mapped (manager_of x 2) x.share.outs (bits_assigned x.kind.outputs x.outputs) x.kind.out_start 4 out_room
           (carried (manager_of x 2) x.kind.out_start x.share.outs (out_manager o).control 4 ms.outputs (ms.in_ram 2 (omega arith)) (out-mode x.kind.mailbox o ms.hardware));

@@ -1,5 +1,5 @@
 -- The steps before whose frames parts are fed are the last of a script. While they go on, each slave has all that its plan sets.
-use Rattle.ec_bringup.proofs.Words.{ℕ, zero, suc, ◌+◌, ◌<◌, ◌≡◌, ◌==◌, Bool, true, false, Option, Some, None, refl, sym, ◌∙◌, ap, subst, arith, if◌then◌else◌, List, [], ◌∷◌, ◌++◌, length, get_or, drop, slice_get, both_ways, Hardware, SlavePlan, Mailbox, State, Init, PreOp, SafeOp, Op, Action, CountSlaves, AskState, AwaitState, AwaitCleanInit, FeedPart, Feed, SdoRequest, StartState, step_of, action_of, is_fed, feed_or, script, phases, each_slave, named, settled, settled_by, identified, mailbox_set, raised, exchanged, talked, manager_set, fmmu_set, mapped, set_manager, opened, closed, is_hardware, requests, settings_at, fmmu_at, Config, Rise, Falls, Stays, Climbs, CanClimb, IsClimbing, eqb-true, is_op, Stage, Up, after, config_after, if_mine, Leads, Fits}
+use Rattle.ec_bringup.proofs.Words.{ℕ, zero, suc, ◌+◌, ◌<◌, ◌≡◌, ◌==◌, Bool, true, false, Option, Some, None, is_some, refl, sym, ◌∙◌, ap, subst, arith, if◌then◌else◌, List, [], ◌∷◌, ◌++◌, length, get_or, drop, slice_get, both_ways, Hardware, SlavePlan, Mailbox, State, Init, PreOp, SafeOp, Op, Action, CountSlaves, AskState, AwaitState, AwaitCleanInit, FeedPart, Feed, SdoRequest, StartState, step_of, action_of, is_fed, feed_or, script, phases, each_slave, named, settled, settled_by, identified, mailbox_set, raised, exchanged, talked, manager_set, fmmu_set, mapped, set_manager, opened, closed, is_hardware, requests, settings_at, fmmu_at, Config, Rise, Falls, Stays, Climbs, CanClimb, IsClimbing, eqb-true, is_op, Stage, Up, after, config_after, if_mine, Leads, Fits}
 
 -- ---- lists of actions
 
@@ -55,13 +55,14 @@ mailbox-unfed : (i : ℕ) (p : SlavePlan) (o : Option Mailbox) → AreUnfed (mai
 mailbox-unfed i p None = tt
 mailbox-unfed i p (Some b) = (refl, (refl, tt))
 
-exchanged-unfed : (i before : ℕ) (b : Mailbox) (rs : List SdoRequest) → AreUnfed (exchanged i b before rs)
-exchanged-unfed i before b [] = tt
-exchanged-unfed i before b (r ∷ rs) = (refl, (refl, exchanged-unfed i (before + 1) b rs))
+exchanged-unfed : (hardware : Bool) (i before : ℕ) (b : Mailbox) (rs : List SdoRequest) → AreUnfed (exchanged hardware i b before rs)
+exchanged-unfed hardware i before b [] = tt
+exchanged-unfed true i before b (r ∷ rs) = (refl, (refl, exchanged-unfed true i (before + 1) b rs))
+exchanged-unfed false i before b (r ∷ rs) = (refl, (refl, exchanged-unfed false i (before + 1) b rs))
 
 talked-unfed : (i : ℕ) (p : SlavePlan) (o : Option Mailbox) → AreUnfed (talked i p o)
 talked-unfed i p None = tt
-talked-unfed i p (Some b) = exchanged-unfed i 0 b (requests p)
+talked-unfed i p (Some b) = exchanged-unfed (is_some p.kind.hardware) i 0 b (requests p)
 
 mapped-unfed : (i : ℕ) (p : SlavePlan) → AreUnfed (mapped i p)
 mapped-unfed i p =
@@ -114,6 +115,7 @@ pub record SameSet (c e : Config) : Type 0 where
   pub outs : c.outs ≡ e.outs
   pub ins : c.ins ≡ e.ins
   pub talk : c.talk ≡ e.talk
+  pub done : c.done ≡ e.done
 
 -- in SAFEOP, on the way to OP, or in OP
 abbrev pub IsRunning : Rise → Type 0
@@ -129,15 +131,15 @@ pub record HasAllSet (st : Stage) (e : Config) : Type 0 where
   pub rise : e.rise ≡ Stays Op → IsRunning config.rise
 
 set-trans : (c d e : Config) → SameSet c d → SameSet d e → SameSet c e
-set-trans c d e h k = record { managers = h.managers ∙ k.managers; fmmus = h.fmmus ∙ k.fmmus; outs = h.outs ∙ k.outs; ins = h.ins ∙ k.ins; talk = h.talk ∙ k.talk }
+set-trans c d e h k = record { managers = h.managers ∙ k.managers; fmmus = h.fmmus ∙ k.fmmus; outs = h.outs ∙ k.outs; ins = h.ins ∙ k.ins; talk = h.talk ∙ k.talk; done = h.done ∙ k.done }
 
 set-same : (c d : Config) → c ≡ d → SameSet c d
-set-same c d e = record { managers = ap (λ (x : Config). x.managers) e; fmmus = ap (λ (x : Config). x.fmmus) e; outs = ap (λ (x : Config). x.outs) e; ins = ap (λ (x : Config). x.ins) e; talk = ap (λ (x : Config). x.talk) e }
+set-same c d e = record { managers = ap (λ (x : Config). x.managers) e; fmmus = ap (λ (x : Config). x.fmmus) e; outs = ap (λ (x : Config). x.outs) e; ins = ap (λ (x : Config). x.ins) e; talk = ap (λ (x : Config). x.talk) e; done = ap (λ (x : Config). x.done) e }
 
 -- none of them sets a manager or an FMMU, and none talks
 fed-keeps : (c : Config) (a : Action) → is_fed a ≡ true → SameSet c (config_after c a)
-fed-keeps c (AskState t to) e = record { managers = refl; fmmus = refl; outs = refl; ins = refl; talk = refl }
-fed-keeps c (AwaitState t to) e = record { managers = refl; fmmus = refl; outs = refl; ins = refl; talk = refl }
+fed-keeps c (AskState t to) e = record { managers = refl; fmmus = refl; outs = refl; ins = refl; talk = refl; done = refl }
+fed-keeps c (AwaitState t to) e = record { managers = refl; fmmus = refl; outs = refl; ins = refl; talk = refl; done = refl }
 fed-keeps c _ e = absurd (both_ways false refl e)
 
 -- the slave that it is for
@@ -160,7 +162,7 @@ can-run (Stays Op) h = absurd h
 can-run Falls h = absurd h
 can-run (Climbs from to) h = absurd h
 
-climbing-runs : (r : Rise) → IsClimbing r Op → IsRunning r
+pub climbing-runs : (r : Rise) → IsClimbing r Op → IsRunning r
 climbing-runs (Climbs SafeOp Op) h = tt
 climbing-runs (Climbs SafeOp Init) h = absurd (cc h.1)
 climbing-runs (Climbs SafeOp PreOp) h = absurd (cc h.1)
@@ -227,13 +229,14 @@ mailbox-own : (i : ℕ) (p : SlavePlan) (o : Option Mailbox) → AreOwn (mailbox
 mailbox-own i p None = tt
 mailbox-own i p (Some b) = (λ f e. cc e, (λ f e. cc e, tt))
 
-exchanged-own : (i before : ℕ) (b : Mailbox) (rs : List SdoRequest) → AreOwn (exchanged i b before rs)
-exchanged-own i before b [] = tt
-exchanged-own i before b (r ∷ rs) = (λ f e. cc e, (λ f e. cc e, exchanged-own i (before + 1) b rs))
+exchanged-own : (hardware : Bool) (i before : ℕ) (b : Mailbox) (rs : List SdoRequest) → AreOwn (exchanged hardware i b before rs)
+exchanged-own hardware i before b [] = tt
+exchanged-own true i before b (r ∷ rs) = (λ f e. cc e, (λ f e. cc e, exchanged-own true i (before + 1) b rs))
+exchanged-own false i before b (r ∷ rs) = (λ f e. cc e, (λ f e. cc e, exchanged-own false i (before + 1) b rs))
 
 talked-own : (i : ℕ) (p : SlavePlan) (o : Option Mailbox) → AreOwn (talked i p o)
 talked-own i p None = tt
-talked-own i p (Some b) = exchanged-own i 0 b (requests p)
+talked-own i p (Some b) = exchanged-own (is_some p.kind.hardware) i 0 b (requests p)
 
 mapped-own : (i : ℕ) (p : SlavePlan) → AreOwn (mapped i p)
 mapped-own i p =

@@ -11,7 +11,7 @@ use Rattle.ec_link.specs.Plan.{part_at, no_part, predicted_of, share_sum, write_
 use Rattle.ec_link.specs.Meaning.{meaning, share_of, area_of, span_of_part, no_slave}
 use Rattle.ec_link.specs.Shares.{lwr_count, lrw_count, whole_share}
 use Rattle.ec_start.specs.Feeding.{feed_over, feeds_from, feeds_of}
-use Rattle.ec_start.proofs.Feedings.{hardware_feeds, plain_feeds}
+use Rattle.ec_start.proofs.Feedings.{hardware_is_fed}
 use Rattle.ec_bringup.specs.Fed.{IsAway, PartsCanBeFed, IsCountedIn, Within, Outside, sum_up, IsPredicted, PartsArePredicted}
 
 -- ---- which part is which feed
@@ -209,8 +209,8 @@ module _ (p : PlanState) (u : IsUsable p) where
   -- a feed of the plan is that of one of its parts
   found : (k : ℕ) (f : Feed) → slice_get (feeds_of p) k ≡ Some f → IsOfPart p p.parts 0 f
   found k f e = elim (cases_Bool (is_hardware p.slaves)) [
-    | inl h ↦ of-part p 0 k p.parts f (ap (λ (xs : List Feed). slice_get xs k) (sym (hardware_feeds p h)) ∙ e)
-    | inr n ↦ absurd (none-there k (ap (λ (xs : List Feed). slice_get xs k) (sym (plain_feeds p n)) ∙ e))
+    | inl h ↦ of-part p 0 k p.parts f (ap (λ (xs : List Feed). slice_get xs k) (sym ((hardware_is_fed p).hardware h)) ∙ e)
+    | inr n ↦ absurd (none-there k (ap (λ (xs : List Feed). slice_get xs k) (sym ((hardware_is_fed p).plain n)) ∙ e))
   ]
     where
       none-there : (j : ℕ) → slice_get {X = Feed} [] j ≡ Some f → ⊥
@@ -230,7 +230,7 @@ module _ (p : PlanState) (u : IsUsable p) where
       let f : Feed = feed_over (part_at p.parts n) (predicted_of p n) in (
         r.number,
         f,
-        ap (λ (xs : List Feed). slice_get xs r.number) (hardware_feeds p h) ∙ (r.there ∙ ap (λ (k : ℕ). Some (feed_over (part_at p.parts n) (predicted_of p k))) z),
+        ap (λ (xs : List Feed). slice_get xs r.number) ((hardware_is_fed p).hardware h) ∙ (r.there ∙ ap (λ (k : ℕ). Some (feed_over (part_at p.parts n) (predicted_of p k))) z),
         spans-own n f there refl i l refl,
       )
 

@@ -1,5 +1,5 @@
 -- From one frame to the next, and from the first to the last: an undisturbed start-up goes on as its script says.
-use Rattle.ec_bringup.proofs.Words.{ℕ, zero, suc, ◌+◌, ◌^◌, ◌<◌, ◌≤◌, ◌≡◌, true, false, refl, sym, ◌∙◌, ap, subst, inl, inr, ◌⊎◌, arith, List, [], ◌∷◌, length, map, drop, get_or, slice_get, nat_lt, ◌==◌, Bool, Option, Some, None, is_some, if◌then◌else◌, ◌++◌, lt-ltb, le-ltb, cases_eq, both_ways, length-map, if_true, if_false, Device, WantedDevice, Hardware, SlaveKind, Datagram, IsDatagram, SlaveState, manager_at, datagram_met, served, SlavePlan, Feed, Action, CountSlaves, AskWord, AwaitWord, AskState, AwaitReply, AwaitInit, AwaitCleanInit, FeedPart, datagram_of, script, named, settled, settled_by, identified, mailbox_set, raised, exchanged, talked, set_manager, fmmu_set, mapped, each_slave, opened, closed, is_hardware, phases, requests, with_word, verdict, Fed, StartState, step_of, action_of, is_fed, frames_of, type_of, sending, advanced, with_identity, judged, Idle, Ready, Stage, Up, Config, after, Stands, Stays, IsAssigned, IsSilent, Talks, Talk, Claim, Claims, AreApplied, IsOfKind, AreNamed, MayEnd, all_passed, all_met, Rising, turned, plan_at, planned, rising, TurnsTo, AppliedStays as Stays_on, Turns, Mailbox, State, PreOp, SafeOp, Op, settings_at, fmmu_at, SdoRequest, IsReachable, CanReach, IsOnItsWay, settles, has_firmware, has_outputs, manager_number, AreNumbered}
+use Rattle.ec_bringup.proofs.Words.{ℕ, zero, suc, ◌+◌, ◌^◌, ◌*◌, ◌<◌, ◌≤◌, ◌≡◌, ◌≢◌, true, false, refl, sym, ◌∙◌, ap, subst, inl, inr, ◌⊎◌, arith, List, [], ◌∷◌, length, map, drop, get_or, slice_get, nat_lt, ◌==◌, Bool, Option, Some, None, is_some, if◌then◌else◌, ◌++◌, lt-ltb, le-ltb, cases_eq, both_ways, length-map, if_true, if_false, Device, WantedDevice, Hardware, SlaveKind, Datagram, IsDatagram, SlaveState, manager_at, datagram_met, served, SlavePlan, Feed, Action, CountSlaves, AskWord, AwaitWord, AskState, AskInit, ClearStations, AwaitReply, AwaitFreeReply, AwaitInit, AwaitCleanInit, Verdict, Again, Aside, Heard, max_polls, MayRepeat, steps_slow, polls_more, frames_each, frames_behind, Came, dictionary_of, Fits, ne_eqb, cases_lt, FeedPart, datagram_of, script, named, settled, settled_by, identified, mailbox_set, raised, exchanged, talked, set_manager, fmmu_set, mapped, each_slave, opened, closed, is_hardware, phases, requests, with_word, verdict, Fed, StartState, step_of, action_of, is_fed, type_of, sending, advanced, with_identity, judged, Idle, Ready, Stage, Up, Config, after, Stands, Stays, IsAssigned, IsSilent, Talks, Talk, Claim, Claims, AreApplied, IsOfKind, AreNamed, MayEnd, all_passed, all_met, Rising, turned, plan_at, planned, rising, TurnsTo, AppliedStays as Stays_on, Turns, Mailbox, State, PreOp, SafeOp, Op, settings_at, fmmu_at, SdoRequest, IsReachable, CanReach, IsOnItsWay, settles, has_outputs, manager_number, AreNumbered}
 use Rattle.ec_bringup.specs.Fed.{AreFeedsOf, ArePredicted, IsFeedOf}
 use Rattle.ec_bringup.proofs.OneFrame.FrameLaw.{take-law}
 use Rattle.ec_bringup.proofs.OneFrame.FeedLaw.{feed-sets-out}
@@ -10,8 +10,11 @@ use Rattle.ec_bringup.proofs.OneFrame.Commands.{word_of, Unawaited}
 use Rattle.ec_bringup.proofs.OneFrame.Awaits.{Tells}
 use Rattle.ec_bringup.proofs.Script.Walks.{Walks, walks-lead}
 use Rattle.ec_bringup.proofs.Script.FedSteps.{AreFed, Acts, Own, Part, acts, HasAllSet, all-set, fed-ahead}
-use Rattle.ec_bringup.proofs.AllSlaves.NextAction.{Prior, Prompted, Suits, Ready as IsReadyFor, Bears, reached-of}
-use Rattle.ec_bringup.proofs.AllSlaves.FramePasses.{Each, Ahead, After, pass-all, spelled-on, wanted, IsInside, Told, sets-out, comes-back}
+use Rattle.std.proofs.Math.Nat.{mul-le-mul_right}
+use Rattle.ec_bringup.proofs.Script.Polls.{al_asked, IsCounted, own-each, fed-within, counted-one, due-of, on-of, paced-of, counted-next, more-few, behind-more}
+use Rattle.ec_bringup.proofs.AllSlaves.Delays.{IsPolled, reached-of}
+use Rattle.ec_bringup.proofs.AllSlaves.NextAction.{Prior, Prompted, Suits, Bless, IsPaced, Ready as IsReadyFor, Bears}
+use Rattle.ec_bringup.proofs.AllSlaves.FramePasses.{Each, Ahead, After, Still, pass-all, wait-all, spelled-on, wanted, IsInside, IsDue, GoesOn, Told, sets-out, comes-back, goes-on}
 use Rattle.ec_bringup.proofs.AllSlaves.FedTurns.{IsFedBy, fed-none, fed-applied, Waits, Goes, fed-back}
 use Rattle.ec_bringup.proofs.AllSlaves.Applications.{Stood, stood-applied, each-applied, applied-length}
 
@@ -20,8 +23,9 @@ abbrev pub Chained : Bool → ℕ → Action → List Action → Type 0
 Chained hw n p [] = Unit {0}
 Chained hw n p (a ∷ rest) = Prompted p a × IsInside hw n a × IsSendable a × Chained hw n a rest
 
+-- behind the last one stands none that asks anything
 abbrev pub first_of : List Action → Action
-first_of [] = CountSlaves
+first_of [] = ClearStations
 first_of (a ∷ rest) = a
 
 -- ---- the words seen
@@ -48,6 +52,30 @@ told-next types seen hw n a _ i p h = tt
 judged-wanted : (types : ℕ → WantedDevice) (s : StartState) (a : Action) → action_of s ≡ a → judged s (wanted types a) ≡ advanced s (seen_by types s.seen a)
 judged-wanted types s (AwaitWord t which) e = ap (λ (x : Action). advanced s (with_identity s x (word_of (types t).device which))) e
 judged-wanted types s _ e = refl
+
+-- what one poll more leaves
+pub record IsPolledOn (s t : StartState) : Type 0 where
+  pub plan : t.plan ≡ s.plan
+  pub feeds : t.feeds ≡ s.feeds
+  pub place : t.place ≡ s.place
+  pub seen : t.seen ≡ s.seen
+  pub numbers : t.next ≡ s.next
+  pub fed : t.fed ≡ 0
+  pub polls : t.polls ≡ s.polls + 1
+  pub phase : t.phase ≡ Idle
+
+judged-on : (s : StartState) (v : Verdict) → s.polls + 1 ≢ max_polls → (v ≡ Again) ⊎ ((heard : Heard) × (v ≡ Aside heard)) → IsPolledOn s (judged s v)
+judged-on s v few (inl e) =
+    subst (λ (x : Verdict). IsPolledOn s (judged s x)) (sym e) (subst (IsPolledOn s) (sym (if_false _ _ _ (ne_eqb (s.polls + 1) max_polls few)))
+    (record { plan = refl; feeds = refl; place = refl; seen = refl; numbers = refl; fed = refl; polls = refl; phase = refl }))
+judged-on s v few (inr (heard, e)) =
+    subst (λ (x : Verdict). IsPolledOn s (judged s x)) (sym e) (subst (IsPolledOn s) (sym (if_false _ _ _ (ne_eqb (s.polls + 1) max_polls few)))
+    (record { plan = refl; feeds = refl; place = refl; seen = refl; numbers = refl; fed = refl; polls = refl; phase = refl }))
+
+-- and it is tried again
+repeats-by : (n step : ℕ) (seen : Device) (ps : List SlavePlan) (a : Action) (d : Datagram) → (verdict n step seen (type_of ps) a d ≡ Again) ⊎ ((heard : Heard) × (verdict n step seen (type_of ps) a d ≡ Aside heard)) → MayRepeat a d
+repeats-by n step seen ps a d (inl e) = (take-law n step seen ps a d).2 e
+repeats-by n step seen ps a d (inr (heard, e)) = (take-law n step seen ps a d).3 heard e
 
 -- a verdict that is wanted ends the action
 ends-by : (n step : ℕ) (seen : Device) (ps : List SlavePlan) (a : Action) (d : Datagram) → verdict n step seen (type_of ps) a d ≡ wanted (type_of ps) a → MayEnd a d
@@ -103,8 +131,8 @@ pub record IsPath (ps : List SlavePlan) (fs : List Feed) (ends : ℕ → Config)
   pub few : length ps ≤ 64
   pub types : (t : ℕ) → t < length ps → (type_of ps t).device ≡ (plan_at ps t).kind.device
   pub big : (t which : ℕ) → t < length ps → word_of (type_of ps t).device which < 2 ^ 32
-  -- of a table without `hardware` each slave has firmware
-  pub plain : (i : ℕ) → i < length ps → is_hardware ps ≡ false → has_firmware (plan_at ps i).kind.hardware ≡ true
+  -- no device lets a request wait for more than 100 steps
+  pub slow : (i : ℕ) → steps_slow (plan_at ps i).kind.hardware ≤ 100
   pub alike : (i : ℕ) → i < length ps → is_some (plan_at ps i).kind.hardware ≡ is_hardware ps
   pub feeds : AreFeedsOf ps fs
   pub predicted : ArePredicted ps fs
@@ -114,11 +142,22 @@ pub record IsPath (ps : List SlavePlan) (fs : List Feed) (ends : ℕ → Config)
   -- a slave whose plan has no output bits has no outputs
   pub no_outputs : (i : ℕ) → i < length ps → (s : SlaveState) → IsOfKind (plan_at ps i).kind s → IsAssigned (ends i) s → (plan_at ps i).share.outs ≡ 0 → has_outputs s ≡ false
 
-pub record IsNow (ps : List SlavePlan) (fs : List Feed) (kinds : ℕ → SlaveKind) (ends : ℕ → Config) (stages : ℕ → Stage) (a : Action) (rest : List Action) (r : Rising) : Type 0 where
+-- frames of this step so far
+abbrev pub here_at : List Feed → Action → Rising → ℕ
+here_at fs a r = r.start.polls * frames_each fs a + r.start.fed
+
+-- behind the `n` frames that were sent before it
+abbrev pub sent_at : List Feed → ℕ → Action → Rising → ℕ
+sent_at fs n a r = n + r.start.polls * frames_each fs a + r.start.fed
+
+-- at the step `a`, behind the step `p`
+pub record IsNow (ps : List SlavePlan) (fs : List Feed) (ss : List SlaveState) (kinds : ℕ → SlaveKind) (ends : ℕ → Config) (stages : ℕ → Stage) (n : ℕ) (p a : Action) (rest : List Action) (r : Rising) : Type 0 where
   pub plan_is : r.start.plan ≡ ps
   pub feeds_are : r.start.feeds ≡ fs
   pub fed_few : r.start.fed ≤ length fs
   pub fed_none : is_fed a ≡ false → r.start.fed ≡ 0
+  pub polls_few : r.start.polls ≤ polls_more ps fs ss n p a
+  pub counted : IsCounted a n
   pub idle : r.start.phase ≡ Idle
   pub ahead : drop r.start.place (script ps) ≡ a ∷ rest
   pub count : length r.slaves ≡ length ps
@@ -128,19 +167,25 @@ pub record IsNow (ps : List SlavePlan) (fs : List Feed) (kinds : ℕ → SlaveKi
   pub chained : Chained (is_hardware ps) (length ps) a rest
   pub walks : (i : ℕ) → i < length ps → Walks (Bears (kinds i)) i (stages i) (a ∷ rest) (Up (ends i))
   pub named : (i : ℕ) → i < length ps → AreNamed (kinds i) i (a ∷ rest)
-  pub each : Each (λ i s. Stood (kinds i) i (stages i) a s) 0 r.slaves
+  pub each : Each (λ i s. Stood (kinds i) i (stages i) (al_asked ss i) (sent_at fs n a r) (polls_more ps fs ss n p a) (here_at fs a r) a s) 0 r.slaves
   pub fed : Each (λ i s. IsFedBy ps fs r.start.fed i s) 0 r.slaves
 
--- what the frame of a step leads to
-pub record HasTurned (ps : List SlavePlan) (kinds : ℕ → SlaveKind) (stages : ℕ → Stage) (a : Action) (rest : List Action) (r : Rising) : Type 0 where
+-- what the last frame of a step leads to
+pub record HasTurned (ps : List SlavePlan) (ss : List SlaveState) (kinds : ℕ → SlaveKind) (stages : ℕ → Stage) (sent next : ℕ) (a : Action) (rest : List Action) (r : Rising) : Type 0 where
   pub start : (turned r).start ≡ advanced (sending r.start) (seen_by (type_of ps) r.start.seen a)
-  pub each : Each (λ i s. Stood (kinds i) i (after i (stages i) a) (first_of rest) s) 0 (turned r).slaves
+  pub each : Each (λ i s. Stood (kinds i) i (after i (stages i) a) (al_asked ss i) (sent + 1) next 0 (first_of rest) s) 0 (turned r).slaves
+  pub count : length (turned r).slaves ≡ length ps
+
+-- a frame before it
+pub record HasWaited (ps : List SlavePlan) (ss : List SlaveState) (kinds : ℕ → SlaveKind) (stages : ℕ → Stage) (sent more here : ℕ) (a : Action) (r : Rising) : Type 0 where
+  pub start : IsPolledOn (sending r.start) (turned r).start
+  pub each : Each (λ i s. Stood (kinds i) i (stages i) (al_asked ss i) (sent + 1) more (here + 1) a s) 0 (turned r).slaves
   pub count : length (turned r).slaves ≡ length ps
 
 -- and one that feeds a part
-pub record HasFed (ps : List SlavePlan) (fs : List Feed) (kinds : ℕ → SlaveKind) (stages : ℕ → Stage) (a : Action) (r : Rising) : Type 0 where
+pub record HasFed (ps : List SlavePlan) (fs : List Feed) (ss : List SlaveState) (kinds : ℕ → SlaveKind) (stages : ℕ → Stage) (sent more here : ℕ) (a : Action) (r : Rising) : Type 0 where
   pub start : (turned r).start ≡ record (sending r.start) { fed = r.start.fed + 1; phase = Idle }
-  pub each : Each (λ i s. Stood (kinds i) i (stages i) a s) 0 (turned r).slaves
+  pub each : Each (λ i s. Stood (kinds i) i (stages i) (al_asked ss i) (sent + 1) more (here + 1) a s) 0 (turned r).slaves
   pub fed : Each (λ i s. IsFedBy ps fs (r.start.fed + 1) i s) 0 (turned r).slaves
   pub count : length (turned r).slaves ≡ length ps
 
@@ -152,10 +197,21 @@ chained-inside : (hw : Bool) (n : ℕ) (a : Action) (rest : List Action) → Cha
 chained-inside hw n a [] h = tt
 chained-inside hw n a (b ∷ rest) h = h.1
 
--- only a table without `hardware` awaits INIT without an error, all at once
-suits-by : (kind : SlaveKind) (hw : Bool) (n : ℕ) (b : Action) → (hw ≡ false → has_firmware kind.hardware ≡ true) → IsInside hw n b → Suits kind b
+-- only a table without `hardware` awaits INIT without an error, all at once, and replies that nothing comes before
+suits-by : (kind : SlaveKind) (hw : Bool) (n : ℕ) (b : Action) → (hw ≡ false → kind.hardware ≡ None) → IsInside hw n b → Suits kind b
 suits-by kind hw n AwaitInit plain i = plain i
+suits-by kind hw n (AwaitReply t b r) plain i = plain i.1
 suits-by kind hw n _ plain i = tt
+
+-- no action of a script but the first counts the slaves
+not-first : (a b : Action) → Prompted a b → b ≡ CountSlaves → ⊥
+not-first a b p e = subst (λ (x : Action). Prompted a x) e p
+
+fed-not-first : (a : Action) → is_fed a ≡ true → a ≡ CountSlaves → ⊥
+fed-not-first a f e = both_ways (is_fed a) (ap is_fed e) f
+
+polled-not-first : (a : Action) (more here : ℕ) → IsPolled a more here → a ≡ CountSlaves → ⊥
+polled-not-first a more here p e = subst (λ (x : Action). IsPolled x more here) e p
 
 pub record HasRisen (n : ℕ) (kinds : ℕ → SlaveKind) (ends : ℕ → Config) (number : ℕ) (r : Rising) : Type 0 where
   pub count : length r.slaves ≡ n
@@ -181,22 +237,6 @@ none-behind [] k e = omega arith
 none-behind (y ∷ xs) zero e = absurd (cc e)
 none-behind (y ∷ xs) (suc k) e = let h = none-behind xs k e in omega (arith, h)
 
--- the frames of a step: all parts, and its own
-step-frames : (fs : List Feed) (a : Action) (rest : List Action) (fed : ℕ) → (is_fed a ≡ false → fed ≡ 0) → (is_fed a ≡ true → fed ≡ length fs) → frames_of fs (a ∷ rest) ≡ fed + 1 + frames_of fs rest
-step-frames fs a rest fed none all = by (is_fed a) refl
-  where
-    by : (b : Bool) → is_fed a ≡ b → (if is_fed a then length fs + 1 else 1) + frames_of fs rest ≡ fed + 1 + frames_of fs rest
-    by true e = ap (λ (x : ℕ). x + frames_of fs rest) (if_true (is_fed a) (length fs + 1) 1 e) ∙ ap (λ (x : ℕ). x + 1 + frames_of fs rest) (sym (all e))
-    by false e = ap (λ (x : ℕ). x + frames_of fs rest) (if_false (is_fed a) (length fs + 1) 1 e) ∙ ap (λ (x : ℕ). x + 1 + frames_of fs rest) (sym (none e))
-
--- not all of them were made
-fed-left : (fs : List Feed) (a : Action) (rest : List Action) (fed : ℕ) → fed ≤ length fs → (is_fed a ≡ false → fed ≡ 0) → fed < frames_of fs (a ∷ rest)
-fed-left fs a rest fed few none = by (is_fed a) refl
-  where
-    by : (b : Bool) → is_fed a ≡ b → fed < (if is_fed a then length fs + 1 else 1) + frames_of fs rest
-    by true e = subst (λ (n : ℕ). fed < n + frames_of fs rest) (sym (if_true (is_fed a) (length fs + 1) 1 e)) (omega (arith, few))
-    by false e = let z = none e in subst (λ (n : ℕ). fed < n + frames_of fs rest) (sym (if_false (is_fed a) (length fs + 1) 1 e)) (omega (arith, z))
-
 -- ---- outputs that are awaited
 
 unawaited-by : (o : Option Hardware) (s : SlaveState) → s.kind.hardware ≡ o → Dry s → (is_some o ≡ true → (has_outputs s ≡ false) ⊎ ((manager_at s.managers 2).awaited ≡ false)) → Unawaited o s
@@ -221,99 +261,191 @@ bare-of : (o : Option Hardware) → is_some o ≡ false → o ≡ None
 bare-of None e = refl
 bare-of (Some h) e = absurd (both_ways true e refl)
 
-module _ (ps : List SlavePlan) (fs : List Feed) (ends : ℕ → Config) (path : IsPath ps fs ends) where
+-- what each slave shows, by equal counts
+counts-on : (ps : List SlavePlan) (ss : List SlaveState) (kinds : ℕ → SlaveKind) (stages : ℕ → Stage) (sent now more here on : ℕ) (a : Action) (xs : List SlaveState) → sent ≡ now → here ≡ on
+    → Each (λ i s. Stood (kinds i) i (stages i) (al_asked ss i) sent more here a s) 0 xs → Each (λ i s. Stood (kinds i) i (stages i) (al_asked ss i) now more on a s) 0 xs
+counts-on ps ss kinds stages sent now more here on a xs e f h =
+    subst (λ (m : ℕ). Each (λ i s. Stood (kinds i) i (stages i) (al_asked ss i) m more on a s) 0 xs) e
+    (subst (λ (m : ℕ). Each (λ i s. Stood (kinds i) i (stages i) (al_asked ss i) sent more m a s) 0 xs) f h)
+
+-- `ss` are the slaves as the start-up found them
+module _ (ps : List SlavePlan) (fs : List Feed) (ss : List SlaveState) (ends : ℕ → Config) (path : IsPath ps fs ends) (as_many : length ss ≡ length ps) where
   abbrev kinds : ℕ → SlaveKind
   kinds i = (plan_at ps i).kind
 
-  step-is : (stages : ℕ → Stage) (a : Action) (rest : List Action) (r : Rising) → IsNow ps fs kinds ends stages a rest r → step_of r.start ≡ a
-  step-is stages a rest r h = ap (λ (q : List SlavePlan). get_action (script q) r.start.place) h.plan_is ∙ (split-at (script ps) r.start.place a rest h.ahead).here
+  abbrev Now : (ℕ → Stage) → ℕ → Action → Action → List Action → Rising → Type 0
+  Now stages n p a rest r = IsNow ps fs ss kinds ends stages n p a rest r
 
-  back-some : (stages : ℕ → Stage) (a : Action) (step number : ℕ) (seen : Device) (ss : List SlaveState) → length ss ≡ length ps → IsInside (is_hardware ps) (length ps) a → Told (type_of ps) seen a
-      → Ahead kinds stages number a 0 ss (datagram_of a number) → verdict (length ps) step seen (type_of ps) a (all_passed ss (datagram_of a number)) ≡ wanted (type_of ps) a
-  back-some stages a step number seen [] e inside told h = absurd (omega (arith, path.some, e))
-  back-some stages a step number seen (s ∷ ss) e inside told h =
-      subst (λ (n : ℕ). verdict n step seen (type_of ps) a (all_passed (s ∷ ss) (datagram_of a number)) ≡ wanted (type_of ps) a) e
-      (comes-back kinds stages number step seen (type_of ps) (is_hardware ps) s ss a (λ t l. path.types t (omega (arith, l, e))) (λ t which l. path.big t which (omega (arith, l, e)))
-      (λ q i l. bare-of (plan_at ps i).kind.hardware (path.alike i (omega (arith, l, e)) ∙ q))
-      (subst (λ (n : ℕ). IsInside (is_hardware ps) n a) (sym e) inside) told h)
+  abbrev more_of : ℕ → Action → Action → ℕ
+  more_of n p a = polls_more ps fs ss n p a
+
+  -- the frames before the next step
+  abbrev next_of : ℕ → Action → Action → ℕ
+  next_of n p a = n + (polls_more ps fs ss n p a + 1) * frames_each fs a
+
+  step-is : (stages : ℕ → Stage) (n : ℕ) (p a : Action) (rest : List Action) (r : Rising) → Now stages n p a rest r → step_of r.start ≡ a
+  step-is stages n p a rest r h = ap (λ (q : List SlavePlan). get_action (script q) r.start.place) h.plan_is ∙ (split-at (script ps) r.start.place a rest h.ahead).here
+
+  bare-at : (i : ℕ) → i < length ps → is_hardware ps ≡ false → (kinds i).hardware ≡ None
+  bare-at i l q = bare-of (plan_at ps i).kind.hardware (path.alike i l ∙ q)
+
+  back-some : (stages : ℕ → Stage) (sent more here : ℕ) (a : Action) (step number : ℕ) (seen : Device) (xs : List SlaveState) → length xs ≡ length ps → IsInside (is_hardware ps) (length ps) a → Told (type_of ps) seen a
+      → IsDue kinds (al_asked ss) (length ps) sent more here a → Ahead kinds stages (al_asked ss) sent more here number a 0 xs (datagram_of a number)
+      → verdict (length ps) step seen (type_of ps) a (all_passed xs (datagram_of a number)) ≡ wanted (type_of ps) a
+  back-some stages sent more here a step number seen [] e inside told due h = absurd (omega (arith, path.some, e))
+  back-some stages sent more here a step number seen (s ∷ xs) e inside told due h =
+      subst (λ (n : ℕ). verdict n step seen (type_of ps) a (all_passed (s ∷ xs) (datagram_of a number)) ≡ wanted (type_of ps) a) e
+      (comes-back kinds stages (al_asked ss) sent more here number step seen (type_of ps) (is_hardware ps) s xs a (λ t l. path.types t (omega (arith, l, e))) (λ t which l. path.big t which (omega (arith, l, e)))
+      (λ q i l. bare-at i (omega (arith, l, e)) q) (subst (λ (n : ℕ). IsInside (is_hardware ps) n a) (sym e) inside) told
+      (subst (λ (n : ℕ). IsDue kinds (al_asked ss) n sent more here a) (sym e) due) h)
+
+  wait-some : (stages : ℕ → Stage) (sent more here : ℕ) (a : Action) (step number : ℕ) (seen : Device) (xs : List SlaveState) → length xs ≡ length ps → IsInside (is_hardware ps) (length ps) a
+      → GoesOn kinds (al_asked ss) (length ps) sent more here a → Ahead kinds stages (al_asked ss) sent more here number a 0 xs (datagram_of a number)
+      → (verdict (length ps) step seen (type_of ps) a (all_passed xs (datagram_of a number)) ≡ Again) ⊎ ((heard : Heard) × (verdict (length ps) step seen (type_of ps) a (all_passed xs (datagram_of a number)) ≡ Aside heard))
+  wait-some stages sent more here a step number seen [] e inside on h = absurd (omega (arith, path.some, e))
+  wait-some stages sent more here a step number seen (s ∷ xs) e inside on h =
+      subst (λ (n : ℕ). (verdict n step seen (type_of ps) a (all_passed (s ∷ xs) (datagram_of a number)) ≡ Again) ⊎ ((heard : Heard) × (verdict n step seen (type_of ps) a (all_passed (s ∷ xs) (datagram_of a number)) ≡ Aside heard))) e
+      (goes-on kinds stages (al_asked ss) sent more here number step seen (type_of ps) (is_hardware ps) s xs a (subst (λ (n : ℕ). IsInside (is_hardware ps) n a) (sym e) inside)
+      (subst (λ (n : ℕ). GoesOn kinds (al_asked ss) n sent more here a) (sym e) on) h)
 
   -- ---- what a slave has while steps go on that are fed
 
-  place-in : (stages : ℕ → Stage) (a : Action) (rest : List Action) (r : Rising) → IsNow ps fs kinds ends stages a rest r → r.start.place < length (script ps)
-  place-in stages a rest r h = let size = (split-at (script ps) r.start.place a rest h.ahead).size in omega (arith, size)
+  place-in : (stages : ℕ → Stage) (n : ℕ) (p a : Action) (rest : List Action) (r : Rising) → Now stages n p a rest r → r.start.place < length (script ps)
+  place-in stages n p a rest r h = let size = (split-at (script ps) r.start.place a rest h.ahead).size in omega (arith, size)
 
-  all-of : (stages : ℕ → Stage) (a : Action) (rest : List Action) (r : Rising) → IsNow ps fs kinds ends stages a rest r → is_fed a ≡ true → (i : ℕ) → i < length ps → HasAllSet (stages i) (ends i)
-  all-of stages a rest r h t i l =
+  all-of : (stages : ℕ → Stage) (n : ℕ) (p a : Action) (rest : List Action) (r : Rising) → Now stages n p a rest r → is_fed a ≡ true → (i : ℕ) → i < length ps → HasAllSet (stages i) (ends i)
+  all-of stages n p a rest r h t i l =
       let sp = split-at (script ps) r.start.place a rest h.ahead in
-      let fed = fed-ahead ps r.start.place (place-in stages a rest r h) (ap is_fed sp.here ∙ t) in
+      let fed = fed-ahead ps r.start.place (place-in stages n p a rest r h) (ap is_fed sp.here ∙ t) in
       all-set i (stages i) (a ∷ rest) (ends i) (subst (λ (xs : List Action). AreFed xs) h.ahead fed) (walks-lead (Bears (kinds i)) i (stages i) (Up (ends i)) (a ∷ rest) (h.walks i l))
 
   -- before the frame of a step, all parts were fed: no slave that has outputs waits for them
-  ready-of : (stages : ℕ → Stage) (a : Action) (rest : List Action) (r : Rising) → IsNow ps fs kinds ends stages a rest r → (is_fed a ≡ true → r.start.fed ≡ length fs)
-      → (i : ℕ) (s : SlaveState) → i < length ps → Stood (kinds i) i (stages i) a s → IsFedBy ps fs r.start.fed i s → IsReadyFor (kinds i) i a s
-  ready-of stages (AskState t to) rest r h all i s l k fed = λ mine op.
+  ready-of : (stages : ℕ → Stage) (n : ℕ) (p a : Action) (rest : List Action) (r : Rising) → Now stages n p a rest r → (is_fed a ≡ true → r.start.fed ≡ length fs)
+      → (i : ℕ) (s : SlaveState) → i < length ps → Stands (kinds i) i (stages i) false s → DryAt (stages i) s → IsFedBy ps fs r.start.fed i s → IsReadyFor (kinds i) i a s
+  ready-of stages n p (AskState t to) rest r h all i s l stands dry fed = λ mine op.
       let f : is_fed (AskState t to) ≡ true = subst (λ (x : State). is_fed (AskState t x) ≡ true) (sym op) refl in
-      let set : HasAllSet (stages i) (ends i) = all-of stages (AskState t to) rest r h f i l in
-      let stood : Stands (kinds i) i (Up set.config) false s = subst (λ (x : Stage). Stands (kinds i) i x false s) set.at k.stands in
+      let set : HasAllSet (stages i) (ends i) = all-of stages n p (AskState t to) rest r h f i l in
+      let stood : Stands (kinds i) i (Up set.config) false s = subst (λ (x : Stage). Stands (kinds i) i x false s) set.at stands in
       let up = reached-of (kinds i) i (Up set.config) s stood in
       let none : set.config.talk ≡ None = set.set.talk ∙ path.silent i l in
       let silent : IsSilent set.config s = subst (λ (o : Option Talk). Talks i set.config o s) none up.talks in
       let assigned : IsAssigned (ends i) s = record {
         outs = subst (λ (c : Claim). Claims c s.outs) set.set.outs silent.assigned.outs;
         ins = subst (λ (c : Claim). Claims c s.ins) set.set.ins silent.assigned.ins;
+        came = subst (λ (rs : List SdoRequest). Came s.kind rs (dictionary_of s)) set.set.done silent.assigned.came;
       } in
-      unawaited-by (kinds i).hardware s (ap (λ (x : SlaveKind). x.hardware) k.stands.slave.kind_is) (subst (λ (x : Stage). DryAt x s) set.at k.dry) (λ hw. elim (cases_eq (plan_at ps i).share.outs 0) [
-        | inl z ↦ inl (path.no_outputs i l s k.stands.slave assigned z)
+      unawaited-by (kinds i).hardware s (ap (λ (x : SlaveKind). x.hardware) stands.slave.kind_is) (subst (λ (x : Stage). DryAt x s) set.at dry) (λ hw. elim (cases_eq (plan_at ps i).share.outs 0) [
+        | inl z ↦ inl (path.no_outputs i l s stands.slave assigned z)
         | inr ne ↦
             let part = path.predicted.all i l (sym (path.alike i l) ∙ hw) (omega (arith, ne)) in
             inr (fed.each part.0 part.1 (let b = got-within fs part.0 part.1 part.2 in let e = all f in omega (arith, b, e)) part.2 part.3 (omega (arith, ne)))
       ])
-  ready-of stages _ rest r h all i s l k fed = tt
+  ready-of stages n p _ rest r h all i s l stands dry fed = tt
 
-  -- ---- the frame of a step
+  -- ---- the step's own frame
 
-  has-turned : (stages : ℕ → Stage) (a : Action) (rest : List Action) (r : Rising) → IsNow ps fs kinds ends stages a rest r → action_of r.start ≡ a → (is_fed a ≡ true → r.start.fed ≡ length fs)
-      → HasTurned ps kinds stages a rest r
-  has-turned stages a rest r h act all-fed =
+  -- as it is sent
+  here-of : (stages : ℕ → Stage) (n : ℕ) (p a : Action) (rest : List Action) (r : Rising) → Now stages n p a rest r → (is_fed a ≡ true → r.start.fed ≡ length fs)
+      → Ahead kinds stages (al_asked ss) (sent_at fs n a r) (more_of n p a) (here_at fs a r) r.start.next a 0 r.slaves (datagram_of a r.start.next)
+  here-of stages n p a rest r h all-fed = record {
+    few = omega (arith, h.count, path.few);
+    good = datagram-good a r.start.next h.sendable;
+    arrives = sets-out a r.start.next;
+    priors = each-both (λ i s. Stood (kinds i) i (stages i) (al_asked ss i) (sent_at fs n a r) (more_of n p a) (here_at fs a r) a s) (λ i s. IsFedBy ps fs r.start.fed i s)
+        (λ i s. Prior (kinds i) i (stages i) (al_asked ss i) (sent_at fs n a r) (more_of n p a) (here_at fs a r) a s) 0 (length ps) r.slaves (omega (arith, h.count))
+        (λ i s l k f. record {
+          stands = k.stands;
+          spelled = k.spelled;
+          fits = (h.walks i l).0;
+          bless = (h.walks i l).1;
+          sure = k.sure;
+          late = k.late;
+          ready = ready-of stages n p a rest r h all-fed i s l k.stands k.dry f;
+          named = (h.named i l).0;
+          dry = k.dry;
+        }) h.each h.fed;
+  }
+
+  -- the verdict on it
+  verdict-is : (stages : ℕ → Stage) (n : ℕ) (p a : Action) (rest : List Action) (r : Rising) → Now stages n p a rest r → action_of r.start ≡ a
+      → verdict (length r.start.plan) r.start.place r.start.seen (type_of r.start.plan) (action_of r.start) (all_passed r.slaves (datagram_of (action_of r.start) r.start.next))
+      ≡ verdict (length ps) r.start.place r.start.seen (type_of ps) a (all_passed r.slaves (datagram_of a r.start.next))
+  verdict-is stages n p a rest r h act =
+      ap (λ (q : List SlavePlan). verdict (length q) r.start.place r.start.seen (type_of q) (action_of r.start) (all_passed r.slaves (datagram_of (action_of r.start) r.start.next))) h.plan_is
+      ∙ ap (λ (x : Action). verdict (length ps) r.start.place r.start.seen (type_of ps) x (all_passed r.slaves (datagram_of x r.start.next))) act
+
+  as-before : (stages : ℕ → Stage) (n : ℕ) (p a : Action) (rest : List Action) (r : Rising) → Now stages n p a rest r → length (turned r).slaves ≡ length ps
+  as-before stages n p a rest r h = length-map (all_met r.slaves (datagram_of (action_of r.start) r.start.next)) served ∙ (all-met-length r.slaves (datagram_of (action_of r.start) r.start.next) ∙ h.count)
+
+  -- the last one
+  has-turned : (stages : ℕ → Stage) (n : ℕ) (p a : Action) (rest : List Action) (r : Rising) → Now stages n p a rest r → action_of r.start ≡ a → (is_fed a ≡ true → r.start.fed ≡ length fs)
+      → r.start.polls ≡ more_of n p a → HasTurned ps ss kinds stages (sent_at fs n a r) (more_of (next_of n p a) a (first_of rest)) a rest r
+  has-turned stages n p a rest r h act all-fed last =
       let number : ℕ = r.start.next in
       let d : Datagram = datagram_of a number in
-      let here : Ahead kinds stages number a 0 r.slaves d = record {
-        few = omega (arith, h.count, path.few);
-        good = datagram-good a number h.sendable;
-        arrives = sets-out a number;
-        priors = each-both (λ i s. Stood (kinds i) i (stages i) a s) (λ i s. IsFedBy ps fs r.start.fed i s) (λ i s. Prior (kinds i) i (stages i) a s) 0 (length ps) r.slaves (omega (arith, h.count))
-            (λ i s l k f. record {
-              stands = k.stands;
-              spelled = k.spelled;
-              fits = (h.walks i l).0;
-              bless = (h.walks i l).1;
-              sure = k.sure;
-              ready = ready-of stages a rest r h all-fed i s l k f;
-              named = (h.named i l).0;
-              dry = k.dry;
-            }) h.each h.fed;
-      } in
-      let back = back-some stages a r.start.place number r.start.seen r.slaves h.count h.inside h.told here in
-      let v : verdict (length r.start.plan) r.start.place r.start.seen (type_of r.start.plan) (action_of r.start) (all_passed r.slaves (datagram_of (action_of r.start) number)) ≡ wanted (type_of ps) a
-      = ap (λ (q : List SlavePlan). verdict (length q) r.start.place r.start.seen (type_of q) (action_of r.start) (all_passed r.slaves (datagram_of (action_of r.start) number))) h.plan_is
-      ∙ (ap (λ (x : Action). verdict (length ps) r.start.place r.start.seen (type_of ps) x (all_passed r.slaves (datagram_of x number))) act ∙ back) in
+      let next : ℕ = more_of (next_of n p a) a (first_of rest) in
+      let here = here-of stages n p a rest r h all-fed in
+      let due = due-of ps fs ss n p a r.start.polls r.start.fed as_many last (own-each fs a r.start.fed h.fed_none all-fed) h.counted in
+      let back = back-some stages (sent_at fs n a r) (more_of n p a) (here_at fs a r) a r.start.place number r.start.seen r.slaves h.count h.inside h.told due here in
       let done : MayEnd a (all_passed r.slaves d) = ends-by (length ps) r.start.place r.start.seen ps a (all_passed r.slaves d) back in
-      let suits : (i : ℕ) → i < 0 + length r.slaves → Suits (kinds i) (first_of rest)
-      = λ i l. let b : i < length ps = omega (arith, l, h.count) in suits-by (kinds i) (is_hardware ps) (length ps) (first_of rest) (path.plain i b) (chained-inside (is_hardware ps) (length ps) a rest h.chained) in
-      let all = pass-all kinds stages number a (first_of rest) 0 r.slaves d suits (chained-first (is_hardware ps) (length ps) a rest h.chained) here in
+      let suits : (i : ℕ) → i < 0 + length r.slaves → Suits (kinds i) (first_of rest) × IsPaced (kinds i) i a (first_of rest) next
+      = λ i l. let b : i < length ps = omega (arith, l, h.count) in
+      (suits-by (kinds i) (is_hardware ps) (length ps) (first_of rest) (bare-at i b) (chained-inside (is_hardware ps) (length ps) a rest h.chained), paced-of ps fs ss (next_of n p a) a (first_of rest) i) in
+      let all = pass-all kinds stages (al_asked ss) (sent_at fs n a r) (more_of n p a) (here_at fs a r) number a (first_of rest) next 0 r.slaves d suits (chained-first (is_hardware ps) (length ps) a rest h.chained)
+      (λ e. one-frame stages n p a rest r h last e) here in
       let size : length (all_met r.slaves d) ≡ length ps = all-met-length r.slaves d ∙ h.count in
       record {
-        start = ap (judged (sending r.start)) v ∙ judged-wanted (type_of ps) (sending r.start) a act;
-        each = subst (λ (x : Action). Each (λ i s. Stood (kinds i) i (after i (stages i) a) (first_of rest) s) 0 (map served (all_met r.slaves (datagram_of x number)))) (sym act)
-            (each-served (λ i t. After (kinds i) i (stages i) a (first_of rest) (all_passed r.slaves d) t) (λ i s. Stood (kinds i) i (after i (stages i) a) (first_of rest) s) 0 (length ps)
+        start = ap (judged (sending r.start)) (verdict-is stages n p a rest r h act ∙ back) ∙ judged-wanted (type_of ps) (sending r.start) a act;
+        each = subst (λ (x : Action). Each (λ i s. Stood (kinds i) i (after i (stages i) a) (al_asked ss i) (sent_at fs n a r + 1) next 0 (first_of rest) s) 0 (map served (all_met r.slaves (datagram_of x number)))) (sym act)
+            (each-served (λ i t. After (kinds i) i (stages i) (al_asked ss i) (sent_at fs n a r) next a (first_of rest) (all_passed r.slaves d) t)
+            (λ i s. Stood (kinds i) i (after i (stages i) a) (al_asked ss i) (sent_at fs n a r + 1) next 0 (first_of rest) s) 0 (length ps)
             (all_met r.slaves d) (omega (arith, size))
             (λ i t l k. record {
               stands = stands-served (kinds i) i (after i (stages i) a) false t (k.met.ended done);
               spelled = spelled-on (kinds i).device t (served t) (settles t).image k.spelled;
               sure = k.sure (k.met.ended done);
+              late = k.late (k.met.ended done);
               dry = k.dry (k.met.ended done);
             }) all);
-        count = length-map (all_met r.slaves (datagram_of (action_of r.start) number)) served ∙ (all-met-length r.slaves (datagram_of (action_of r.start) number) ∙ h.count);
+        count = as-before stages n p a rest r h;
+      }
+    where
+      -- the request for INIT is the second frame
+      one-frame : (stages : ℕ → Stage) (n : ℕ) (p a : Action) (rest : List Action) (r : Rising) → Now stages n p a rest r → r.start.polls ≡ more_of n p a → a ≡ AskInit → sent_at fs n a r ≡ 1
+      one-frame stages n p a rest r h last e =
+          let c : n ≡ 1 = counted-one a n h.counted e in
+          let z : r.start.polls ≡ 0 = last ∙ ap (λ (x : Action). polls_more ps fs ss n p x) e in
+          let f : r.start.fed ≡ 0 = h.fed_none (ap is_fed e) in
+          let w : r.start.polls * frames_each fs a ≡ 0 * frames_each fs a = ap (λ (x : ℕ). x * frames_each fs a) z in
+          omega (arith, c, w, f)
+
+  -- and one before it
+  has-waited : (stages : ℕ → Stage) (n : ℕ) (p a : Action) (rest : List Action) (r : Rising) → Now stages n p a rest r → action_of r.start ≡ a → (is_fed a ≡ true → r.start.fed ≡ length fs)
+      → r.start.polls < more_of n p a → HasWaited ps ss kinds stages (sent_at fs n a r) (more_of n p a) (here_at fs a r) a r
+  has-waited stages n p a rest r h act all-fed left =
+      let number : ℕ = r.start.next in
+      let d : Datagram = datagram_of a number in
+      let here = here-of stages n p a rest r h all-fed in
+      let on = on-of ps fs ss n p a r.start.polls r.start.fed left (own-each fs a r.start.fed h.fed_none all-fed) in
+      let back = wait-some stages (sent_at fs n a r) (more_of n p a) (here_at fs a r) a r.start.place number r.start.seen r.slaves h.count h.inside on.0 here in
+      let again : MayRepeat a (all_passed r.slaves d) = repeats-by (length ps) r.start.place r.start.seen ps a (all_passed r.slaves d) back in
+      let few : r.start.polls + 1 ≢ max_polls = λ e. let c = more-few ps fs ss n p a path.slow in let m : max_polls ≡ 1000 = refl in omega (arith, e, c, left, m) in
+      let all = wait-all kinds stages (al_asked ss) (sent_at fs n a r) (more_of n p a) (here_at fs a r) number a 0 r.slaves d on.1 here in
+      let size : length (all_met r.slaves d) ≡ length ps = all-met-length r.slaves d ∙ h.count in
+      record {
+        start = subst (λ (v : Verdict). IsPolledOn (sending r.start) (judged (sending r.start) v)) (sym (verdict-is stages n p a rest r h act)) (judged-on (sending r.start) _ few back);
+        each = subst (λ (x : Action). Each (λ i s. Stood (kinds i) i (stages i) (al_asked ss i) (sent_at fs n a r + 1) (more_of n p a) (here_at fs a r + 1) a s) 0 (map served (all_met r.slaves (datagram_of x number)))) (sym act)
+            (each-served (λ i t. Still (kinds i) i (stages i) (al_asked ss i) (sent_at fs n a r) (more_of n p a) (here_at fs a r) a (all_passed r.slaves d) t)
+            (λ i s. Stood (kinds i) i (stages i) (al_asked ss i) (sent_at fs n a r + 1) (more_of n p a) (here_at fs a r + 1) a s) 0 (length ps)
+            (all_met r.slaves d) (omega (arith, size))
+            (λ i t l k. record {
+              stands = stands-served (kinds i) i (stages i) false t (k.met.repeated again);
+              spelled = spelled-on (kinds i).device t (served t) (settles t).image k.spelled;
+              sure = k.sure (k.met.repeated again);
+              late = k.late (k.met.repeated again);
+              dry = k.dry (k.met.repeated again);
+            }) all);
+        count = as-before stages n p a rest r h;
       }
 
   -- ---- a frame that feeds a part
@@ -321,16 +453,21 @@ module _ (ps : List SlavePlan) (fs : List Feed) (ends : ℕ → Config) (path : 
   part-sendable : (f : Feed) → IsFeedOf ps f → IsSendable (FeedPart f)
   part-sendable f h = (h.few, let a = h.addresses in omega (arith, a))
 
-  has-fed : (stages : ℕ → Stage) (a : Action) (rest : List Action) (r : Rising) (f : Feed) → IsNow ps fs kinds ends stages a rest r → is_fed a ≡ true → action_of r.start ≡ FeedPart f
-      → slice_get fs r.start.fed ≡ Some f → HasFed ps fs kinds stages a r
-  has-fed stages a rest r f h t act at =
+  has-fed : (stages : ℕ → Stage) (n : ℕ) (p a : Action) (rest : List Action) (r : Rising) (f : Feed) → Now stages n p a rest r → is_fed a ≡ true → action_of r.start ≡ FeedPart f
+      → slice_get fs r.start.fed ≡ Some f → HasFed ps fs ss kinds stages (sent_at fs n a r) (more_of n p a) (here_at fs a r) a r
+  has-fed stages n p a rest r f h t act at =
       let number : ℕ = r.start.next in
+      let sent : ℕ = sent_at fs n a r in
+      let more : ℕ = more_of n p a in
+      let here : ℕ = here_at fs a r in
       let d : Datagram = datagram_of (FeedPart f) number in
       let feed : IsFeedOf ps f = path.feeds.each r.start.fed f at in
-      let waits = each-both (λ i s. Stood (kinds i) i (stages i) a s) (λ i s. IsFedBy ps fs r.start.fed i s)
-      (λ i s. Waits ps fs ends stages f r.start.fed number a feed at path.few t path.sets (all-of stages a rest r h t) i s) 0 (length ps) r.slaves (omega (arith, h.count))
+      let sets = all-of stages n p a rest r h t in
+      let asks : (i : ℕ) → i < length ps → Fits i (stages i) a × Bless (planned ps i).kind i (stages i) a = λ i l. ((h.walks i l).0, (h.walks i l).1) in
+      let waits = each-both (λ i s. Stood (kinds i) i (stages i) (al_asked ss i) sent more here a s) (λ i s. IsFedBy ps fs r.start.fed i s)
+      (λ i s. Waits ps fs ends stages (al_asked ss) sent more here f r.start.fed number a feed at path.few t path.sets sets asks i s) 0 (length ps) r.slaves (omega (arith, h.count))
       (λ i s l k g. record { stood = k; fed_by = g }) h.each h.fed in
-      let back = fed-back ps fs ends stages f r.start.fed number a feed at path.few t path.sets (all-of stages a rest r h t) r.slaves r.start.place r.start.seen (type_of ps) h.count (path.predicted.each r.start.fed f at)
+      let back = fed-back ps fs ends stages (al_asked ss) sent more here f r.start.fed number a feed at path.few t path.sets sets asks r.slaves r.start.place r.start.seen (type_of ps) h.count (path.predicted.each r.start.fed f at)
       (datagram-good (FeedPart f) number (part-sendable f feed)) (feed-sets-out ps f number) waits in
       let v : verdict (length r.start.plan) r.start.place r.start.seen (type_of r.start.plan) (action_of r.start) (all_passed r.slaves (datagram_of (action_of r.start) number)) ≡ Fed
       = ap (λ (q : List SlavePlan). verdict (length q) r.start.place r.start.seen (type_of q) (action_of r.start) (all_passed r.slaves (datagram_of (action_of r.start) number))) h.plan_is
@@ -338,153 +475,238 @@ module _ (ps : List SlavePlan) (fs : List Feed) (ends : ℕ → Config) (path : 
       let size : length (map served (all_met r.slaves d)) ≤ length ps = let e = length-map (all_met r.slaves d) served ∙ (all-met-length r.slaves d ∙ h.count) in omega (arith, e) in
       record {
         start = ap (judged (sending r.start)) v;
-        each = subst (λ (x : Action). Each (λ i s. Stood (kinds i) i (stages i) a s) 0 (map served (all_met r.slaves (datagram_of x number)))) (sym act)
-            (each-bound (λ i s. Goes ps fs ends stages f r.start.fed number a feed at path.few t path.sets (all-of stages a rest r h t) i s) (λ i s. Stood (kinds i) i (stages i) a s) 0 (length ps)
+        each = subst (λ (x : Action). Each (λ i s. Stood (kinds i) i (stages i) (al_asked ss i) (sent + 1) more (here + 1) a s) 0 (map served (all_met r.slaves (datagram_of x number)))) (sym act)
+            (each-bound (λ i s. Goes ps fs ends stages (al_asked ss) sent more here f r.start.fed number a feed at path.few t path.sets sets asks i s) (λ i s. Stood (kinds i) i (stages i) (al_asked ss i) (sent + 1) more (here + 1) a s) 0 (length ps)
             (map served (all_met r.slaves d)) (omega (arith, size)) (λ i s l g. g.stood) back.1);
         fed = subst (λ (x : Action). Each (λ i s. IsFedBy ps fs (r.start.fed + 1) i s) 0 (map served (all_met r.slaves (datagram_of x number)))) (sym act)
-            (each-bound (λ i s. Goes ps fs ends stages f r.start.fed number a feed at path.few t path.sets (all-of stages a rest r h t) i s) (λ i s. IsFedBy ps fs (r.start.fed + 1) i s) 0 (length ps)
+            (each-bound (λ i s. Goes ps fs ends stages (al_asked ss) sent more here f r.start.fed number a feed at path.few t path.sets sets asks i s) (λ i s. IsFedBy ps fs (r.start.fed + 1) i s) 0 (length ps)
             (map served (all_met r.slaves d)) (omega (arith, size)) (λ i s l g. g.fed_by) back.1);
-        count = length-map (all_met r.slaves (datagram_of (action_of r.start) number)) served ∙ (all-met-length r.slaves (datagram_of (action_of r.start) number) ∙ h.count);
+        count = as-before stages n p a rest r h;
       }
 
   -- ---- all frames: before the end no frame is outstanding, and the next number counts the frames
 
-  -- what is shown of k turns more
-  abbrev Rises : List Action → Rising → ℕ → Rising → Type 0
-  Rises xs r k e = (k + r.start.fed < frames_of fs xs → IsOnItsWay (r.start.next + k) e) × (k + r.start.fed ≡ frames_of fs xs → HasRisen (length ps) kinds ends (r.start.next + k) e)
+  -- what is shown of k turns more, where `sent` frames were sent of `total`
+  abbrev Rises : (total sent : ℕ) → Rising → ℕ → Rising → Type 0
+  Rises total sent r k e = (k + sent < total → IsOnItsWay (r.start.next + k) e) × (k + sent ≡ total → HasRisen (length ps) kinds ends (r.start.next + k) e)
+
+  -- one frame later
+  rises-on : (total sent now : ℕ) (r u : Rising) (k : ℕ) (e : Rising) → now ≡ sent + 1 → u.start.next ≡ r.start.next + 1 → Rises total now u k e → Rises total sent r (suc k) e
+  rises-on total sent now r u k e z n both =
+      let m : u.start.next + k ≡ r.start.next + suc k = omega (arith, n) in (
+        λ l. subst (λ (x : ℕ). IsOnItsWay x e) m (both.0 (omega (arith, l, z))),
+        λ q. subst (λ (x : ℕ). HasRisen (length ps) kinds ends x e) m (both.1 (omega (arith, q, z))),
+      )
 
   -- its next frame is one
-  good-next : (stages : ℕ → Stage) (a : Action) (rest : List Action) (r : Rising) → IsNow ps fs kinds ends stages a rest r → IsDatagram (datagram_of (action_of r.start) r.start.next)
-  good-next stages a rest r h = by (acts r.start)
+  good-next : (stages : ℕ → Stage) (n : ℕ) (p a : Action) (rest : List Action) (r : Rising) → Now stages n p a rest r → IsDatagram (datagram_of (action_of r.start) r.start.next)
+  good-next stages n p a rest r h = by (acts r.start)
     where
       by : Acts r.start → IsDatagram (datagram_of (action_of r.start) r.start.next)
-      by (Own q none) = subst (λ (x : Action). IsDatagram (datagram_of x r.start.next)) (sym (q ∙ step-is stages a rest r h)) (datagram-good a r.start.next h.sendable)
+      by (Own q none) = subst (λ (x : Action). IsDatagram (datagram_of x r.start.next)) (sym (q ∙ step-is stages n p a rest r h)) (datagram-good a r.start.next h.sendable)
       by (Part f q t at) = subst (λ (x : Action). IsDatagram (datagram_of x r.start.next)) (sym q)
           (datagram-good (FeedPart f) r.start.next (part-sendable f (path.feeds.each r.start.fed f (ap (λ (xs : List Feed). slice_get xs r.start.fed) (sym h.feeds_are) ∙ at))))
 
   -- all parts were fed where the step's own frame comes
-  fed-all : (stages : ℕ → Stage) (a : Action) (rest : List Action) (r : Rising) → IsNow ps fs kinds ends stages a rest r → (is_fed (step_of r.start) ≡ true → slice_get r.start.feeds r.start.fed ≡ None)
+  fed-all : (stages : ℕ → Stage) (n : ℕ) (p a : Action) (rest : List Action) (r : Rising) → Now stages n p a rest r → (is_fed (step_of r.start) ≡ true → slice_get r.start.feeds r.start.fed ≡ None)
       → is_fed a ≡ true → r.start.fed ≡ length fs
-  fed-all stages a rest r h none t =
-      let at : slice_get fs r.start.fed ≡ None = ap (λ (xs : List Feed). slice_get xs r.start.fed) (sym h.feeds_are) ∙ none (ap is_fed (step-is stages a rest r h) ∙ t) in
+  fed-all stages n p a rest r h none t =
+      let at : slice_get fs r.start.fed ≡ None = ap (λ (xs : List Feed). slice_get xs r.start.fed) (sym h.feeds_are) ∙ none (ap is_fed (step-is stages n p a rest r h) ∙ t) in
       let few = none-behind fs r.start.fed at in
       let most = h.fed_few in
       omega (arith, few, most)
 
+  -- with the step's last frame all of its frames were sent
+  all-sent : (stages : ℕ → Stage) (n : ℕ) (p a : Action) (rest : List Action) (r : Rising) → Now stages n p a rest r → (is_fed a ≡ true → r.start.fed ≡ length fs) → r.start.polls ≡ more_of n p a → next_of n p a ≡ sent_at fs n a r + 1
+  all-sent stages n p a rest r h all-fed last =
+      let e = own-each fs a r.start.fed h.fed_none all-fed in
+      let w : r.start.polls * frames_each fs a ≡ polls_more ps fs ss n p a * frames_each fs a = ap (λ (x : ℕ). x * frames_each fs a) last in
+      omega (arith, e, w)
+
   -- behind the last step
-  last-turn : (stages : ℕ → Stage) (a : Action) (r : Rising) → IsNow ps fs kinds ends stages a [] r → HasTurned ps kinds stages a [] r → (k : ℕ) (ss : List SlaveState) (e : Rising) → AreApplied (turned r).slaves ss
-      → k ≡ 0 → TurnsTo k (rising (turned r).start ss) e → HasRisen (length ps) kinds ends (r.start.next + suc k) e
-  last-turn stages a r h t k ss e app z more =
+  last-turn : (stages : ℕ → Stage) (n next : ℕ) (p a : Action) (r : Rising) → Now stages n p a [] r → HasTurned ps ss kinds stages (sent_at fs n a r) next a [] r → (k : ℕ) (xs : List SlaveState) (e : Rising) → AreApplied (turned r).slaves xs
+      → k ≡ 0 → TurnsTo k (rising (turned r).start xs) e → HasRisen (length ps) kinds ends (r.start.next + suc k) e
+  last-turn stages n next p a r h t k xs e app z more =
       let size = (split-at (script ps) r.start.place a [] h.ahead).size in
       let over : nat_lt (r.start.place + 1) (length (script r.start.plan)) ≡ false
       = ap (λ (x : List SlavePlan). nat_lt (r.start.place + 1) (length (script x))) h.plan_is ∙ le-ltb _ _ (omega (arith, size)) in
-      let count : length ss ≡ length ps = applied-length (turned r).slaves ss app ∙ t.count in
-      let n : (turned r).start.next ≡ r.start.next + 1 = ap (λ (s : StartState). s.next) t.start in
-      subst (λ (x : Rising). HasRisen (length ps) kinds ends (r.start.next + suc k) x) (sym (no-more k (rising (turned r).start ss) e z more)) (record {
+      let count : length xs ≡ length ps = applied-length (turned r).slaves xs app ∙ t.count in
+      let m : (turned r).start.next ≡ r.start.next + 1 = ap (λ (s : StartState). s.next) t.start in
+      subst (λ (x : Rising). HasRisen (length ps) kinds ends (r.start.next + suc k) x) (sym (no-more k (rising (turned r).start xs) e z more)) (record {
         count = count;
         ready = ap (λ (s : StartState). s.phase) t.start ∙ if_false _ _ _ over;
-        numbers = omega (arith, n, z);
-        each = each-bound (λ i s. Stood (kinds i) i (after i (stages i) a) CountSlaves s) (λ i s. Stands (kinds i) i (Up (ends i)) false s) 0 (length ps) ss (omega (arith, count))
+        numbers = omega (arith, m, z);
+        each = each-bound (λ i s. Stood (kinds i) i (after i (stages i) a) (al_asked ss i) (sent_at fs n a r + 1) next 0 ClearStations s) (λ i s. Stands (kinds i) i (Up (ends i)) false s) 0 (length ps) xs (omega (arith, count))
             (λ i s l k. subst (λ (x : Stage). Stands (kinds i) i x false s) (h.walks i l).2 k.stands)
-            (each-applied (λ i s. Stood (kinds i) i (after i (stages i) a) CountSlaves s) 0 (turned r).slaves ss (λ i s t g q. stood-applied (kinds i) i (after i (stages i) a) CountSlaves s t g q) app t.each);
+            (each-applied (λ i s. Stood (kinds i) i (after i (stages i) a) (al_asked ss i) (sent_at fs n a r + 1) next 0 ClearStations s) 0 (turned r).slaves xs
+            (λ i s t g q. stood-applied (kinds i) i (after i (stages i) a) (al_asked ss i) (sent_at fs n a r + 1) next 0 ClearStations s t (λ c. cc c) g q) app t.each);
       })
 
   -- at the next step
-  next-now : (stages : ℕ → Stage) (a b : Action) (rest : List Action) (r : Rising) → IsNow ps fs kinds ends stages a (b ∷ rest) r → HasTurned ps kinds stages a (b ∷ rest) r → (ss : List SlaveState) → AreApplied (turned r).slaves ss
-      → IsNow ps fs kinds ends (λ i. after i (stages i) a) b rest (rising (turned r).start ss)
-  next-now stages a b rest r h t ss app =
+  next-now : (stages : ℕ → Stage) (n : ℕ) (p a b : Action) (rest : List Action) (r : Rising) → Now stages n p a (b ∷ rest) r → next_of n p a ≡ sent_at fs n a r + 1
+      → HasTurned ps ss kinds stages (sent_at fs n a r) (more_of (next_of n p a) a b) a (b ∷ rest) r → (xs : List SlaveState) → AreApplied (turned r).slaves xs
+      → Now (λ i. after i (stages i) a) (next_of n p a) a b rest (rising (turned r).start xs)
+  next-now stages n p a b rest r h all t xs app =
       let sp = split-at (script ps) r.start.place a (b ∷ rest) h.ahead in
       let on : nat_lt (r.start.place + 1) (length (script r.start.plan)) ≡ true
       = ap (λ (q : List SlavePlan). nat_lt (r.start.place + 1) (length (script q))) h.plan_is ∙ lt-ltb _ _ (omega (arith, sp.size)) in
       let zero_fed : (turned r).start.fed ≡ 0 = ap (λ (s : StartState). s.fed) t.start in
+      let zero_polls : (turned r).start.polls ≡ 0 = ap (λ (s : StartState). s.polls) t.start in
+      let none : (turned r).start.polls * frames_each fs b ≡ 0 * frames_each fs b = ap (λ (x : ℕ). x * frames_each fs b) zero_polls in
       record {
         plan_is = ap (λ (s : StartState). s.plan) t.start ∙ h.plan_is;
         feeds_are = ap (λ (s : StartState). s.feeds) t.start ∙ h.feeds_are;
         fed_few = omega (arith, zero_fed);
         fed_none = λ e. zero_fed;
+        polls_few = omega (arith, zero_polls);
+        counted = counted-next ps fs ss n p a b h.chained.0 h.counted;
         idle = ap (λ (s : StartState). s.phase) t.start ∙ if_true _ _ _ on;
         ahead = ap (λ (s : StartState). drop s.place (script ps)) t.start ∙ sp.on;
-        count = applied-length (turned r).slaves ss app ∙ t.count;
+        count = applied-length (turned r).slaves xs app ∙ t.count;
         told = subst (λ (s : StartState). Told (type_of ps) s.seen b) (sym t.start) (told-next (type_of ps) r.start.seen (is_hardware ps) (length ps) a b h.chained.1 h.chained.0 h.told);
         inside = h.chained.1;
         sendable = h.chained.2;
         chained = h.chained.3;
         walks = λ i l. (h.walks i l).2;
         named = λ i l. (h.named i l).1;
-        each = each-applied (λ i s. Stood (kinds i) i (after i (stages i) a) b s) 0 (turned r).slaves ss (λ i s t g q. stood-applied (kinds i) i (after i (stages i) a) b s t g q) app t.each;
-        fed = subst (λ (n : ℕ). Each (λ i s. IsFedBy ps fs n i s) 0 ss) (sym zero_fed) (each-none ps fs 0 ss);
+        each = counts-on ps ss kinds (λ i. after i (stages i) a) (sent_at fs n a r + 1) (sent_at fs (next_of n p a) b (rising (turned r).start xs)) (more_of (next_of n p a) a b) 0 (here_at fs b (rising (turned r).start xs)) b xs
+            (omega (arith, all, none, zero_fed)) (omega (arith, none, zero_fed))
+            (each-applied (λ i s. Stood (kinds i) i (after i (stages i) a) (al_asked ss i) (sent_at fs n a r + 1) (more_of (next_of n p a) a b) 0 b s) 0 (turned r).slaves xs
+            (λ i s t g q. stood-applied (kinds i) i (after i (stages i) a) (al_asked ss i) (sent_at fs n a r + 1) (more_of (next_of n p a) a b) 0 b s t (not-first a b h.chained.0) g q) app t.each);
+        fed = subst (λ (m : ℕ). Each (λ i s. IsFedBy ps fs m i s) 0 xs) (sym zero_fed) (each-none ps fs 0 xs);
+      }
+
+  -- at the same step, with one poll more
+  wait-now : (stages : ℕ → Stage) (n : ℕ) (p a : Action) (rest : List Action) (r : Rising) → Now stages n p a rest r → (is_fed a ≡ true → r.start.fed ≡ length fs) → r.start.polls < more_of n p a
+      → HasWaited ps ss kinds stages (sent_at fs n a r) (more_of n p a) (here_at fs a r) a r → (xs : List SlaveState) → AreApplied (turned r).slaves xs → Now stages n p a rest (rising (turned r).start xs)
+  wait-now stages n p a rest r h all-fed left g xs app =
+      let e = own-each fs a r.start.fed h.fed_none all-fed in
+      let on = on-of ps fs ss n p a r.start.polls r.start.fed left e in
+      let one_more : (turned r).start.polls ≡ r.start.polls + 1 = g.start.polls in
+      let zero_fed : (turned r).start.fed ≡ 0 = g.start.fed in
+      let w : (turned r).start.polls * frames_each fs a ≡ (r.start.polls + 1) * frames_each fs a = ap (λ (x : ℕ). x * frames_each fs a) one_more in
+      record {
+        plan_is = g.start.plan ∙ h.plan_is;
+        feeds_are = g.start.feeds ∙ h.feeds_are;
+        fed_few = omega (arith, zero_fed);
+        fed_none = λ q. zero_fed;
+        polls_few = omega (arith, one_more, left);
+        counted = h.counted;
+        idle = g.start.phase;
+        ahead = ap (λ (k : ℕ). drop k (script ps)) g.start.place ∙ h.ahead;
+        count = applied-length (turned r).slaves xs app ∙ g.count;
+        told = subst (λ (x : Device). Told (type_of ps) x a) (sym g.start.seen) h.told;
+        inside = h.inside;
+        sendable = h.sendable;
+        chained = h.chained;
+        walks = h.walks;
+        named = h.named;
+        each = counts-on ps ss kinds stages (sent_at fs n a r + 1) (sent_at fs n a (rising (turned r).start xs)) (more_of n p a) (here_at fs a r + 1) (here_at fs a (rising (turned r).start xs)) a xs
+            (omega (arith, w, zero_fed, e)) (omega (arith, w, zero_fed, e))
+            (each-applied (λ i s. Stood (kinds i) i (stages i) (al_asked ss i) (sent_at fs n a r + 1) (more_of n p a) (here_at fs a r + 1) a s) 0 (turned r).slaves xs
+            (λ i s t x q. stood-applied (kinds i) i (stages i) (al_asked ss i) (sent_at fs n a r + 1) (more_of n p a) (here_at fs a r + 1) a s t (polled-not-first a (more_of n p a) (here_at fs a r) on.1) x q) app g.each);
+        fed = subst (λ (m : ℕ). Each (λ i s. IsFedBy ps fs m i s) 0 xs) (sym zero_fed) (each-none ps fs 0 xs);
       }
 
   -- at the same step, with one part more
-  same-now : (stages : ℕ → Stage) (a : Action) (rest : List Action) (r : Rising) (f : Feed) → IsNow ps fs kinds ends stages a rest r → is_fed a ≡ true → slice_get fs r.start.fed ≡ Some f
-      → HasFed ps fs kinds stages a r → (ss : List SlaveState) → AreApplied (turned r).slaves ss → IsNow ps fs kinds ends stages a rest (rising (turned r).start ss)
-  same-now stages a rest r f h t at g ss app =
+  same-now : (stages : ℕ → Stage) (n : ℕ) (p a : Action) (rest : List Action) (r : Rising) (f : Feed) → Now stages n p a rest r → is_fed a ≡ true → slice_get fs r.start.fed ≡ Some f
+      → HasFed ps fs ss kinds stages (sent_at fs n a r) (more_of n p a) (here_at fs a r) a r → (xs : List SlaveState) → AreApplied (turned r).slaves xs → Now stages n p a rest (rising (turned r).start xs)
+  same-now stages n p a rest r f h t at g xs app =
       let one_more : (turned r).start.fed ≡ r.start.fed + 1 = ap (λ (s : StartState). s.fed) g.start in
+      let same_polls : (turned r).start.polls ≡ r.start.polls = ap (λ (s : StartState). s.polls) g.start in
+      let w : (turned r).start.polls * frames_each fs a ≡ r.start.polls * frames_each fs a = ap (λ (x : ℕ). x * frames_each fs a) same_polls in
       let within = got-within fs r.start.fed f at in
+      let few = h.polls_few in
       record {
         plan_is = ap (λ (s : StartState). s.plan) g.start ∙ h.plan_is;
         feeds_are = ap (λ (s : StartState). s.feeds) g.start ∙ h.feeds_are;
         fed_few = omega (arith, one_more, within);
         fed_none = λ e. absurd (both_ways (is_fed a) e t);
+        polls_few = omega (arith, same_polls, few);
+        counted = h.counted;
         idle = ap (λ (s : StartState). s.phase) g.start;
         ahead = ap (λ (s : StartState). drop s.place (script ps)) g.start ∙ h.ahead;
-        count = applied-length (turned r).slaves ss app ∙ g.count;
+        count = applied-length (turned r).slaves xs app ∙ g.count;
         told = subst (λ (s : StartState). Told (type_of ps) s.seen a) (sym g.start) h.told;
         inside = h.inside;
         sendable = h.sendable;
         chained = h.chained;
         walks = h.walks;
         named = h.named;
-        each = each-applied (λ i s. Stood (kinds i) i (stages i) a s) 0 (turned r).slaves ss (λ i s t x q. stood-applied (kinds i) i (stages i) a s t x q) app g.each;
-        fed = subst (λ (n : ℕ). Each (λ i s. IsFedBy ps fs n i s) 0 ss) (sym one_more)
-            (each-applied (λ i s. IsFedBy ps fs (r.start.fed + 1) i s) 0 (turned r).slaves ss (λ i s t x q. fed-applied ps fs (r.start.fed + 1) i s t x q) app g.fed);
+        each = counts-on ps ss kinds stages (sent_at fs n a r + 1) (sent_at fs n a (rising (turned r).start xs)) (more_of n p a) (here_at fs a r + 1) (here_at fs a (rising (turned r).start xs)) a xs
+            (omega (arith, w, one_more)) (omega (arith, w, one_more))
+            (each-applied (λ i s. Stood (kinds i) i (stages i) (al_asked ss i) (sent_at fs n a r + 1) (more_of n p a) (here_at fs a r + 1) a s) 0 (turned r).slaves xs
+            (λ i s u x q. stood-applied (kinds i) i (stages i) (al_asked ss i) (sent_at fs n a r + 1) (more_of n p a) (here_at fs a r + 1) a s u (fed-not-first a t) x q) app g.each);
+        fed = subst (λ (m : ℕ). Each (λ i s. IsFedBy ps fs m i s) 0 xs) (sym one_more)
+            (each-applied (λ i s. IsFedBy ps fs (r.start.fed + 1) i s) 0 (turned r).slaves xs (λ i s t x q. fed-applied ps fs (r.start.fed + 1) i s t x q) app g.fed);
       }
 
   -- one turn more: from wherever it leads
-  onward : (stages : ℕ → Stage) (a : Action) (rest : List Action) (r : Rising) → IsNow ps fs kinds ends stages a rest r → (k : ℕ) (e : Rising) (ss : List SlaveState) → AreApplied (turned r).slaves ss
-      → ((later : ℕ → Stage) (b : Action) (xs : List Action) → IsNow ps fs kinds ends later b xs (rising (turned r).start ss) → Rises (b ∷ xs) (rising (turned r).start ss) k e)
-      → TurnsTo k (rising (turned r).start ss) e → Rises (a ∷ rest) r (suc k) e
-  onward stages a rest r h k e ss app on more = by (acts r.start)
+  onward : (stages : ℕ → Stage) (n : ℕ) (p a : Action) (rest : List Action) (r : Rising) → Now stages n p a rest r → (k : ℕ) (e : Rising) (xs : List SlaveState) → AreApplied (turned r).slaves xs
+      → ((later : ℕ → Stage) (m : ℕ) (q b : Action) (bs : List Action) → Now later m q b bs (rising (turned r).start xs)
+      → Rises (frames_behind ps fs ss m q (b ∷ bs)) (sent_at fs m b (rising (turned r).start xs)) (rising (turned r).start xs) k e)
+      → TurnsTo k (rising (turned r).start xs) e → Rises (frames_behind ps fs ss n p (a ∷ rest)) (sent_at fs n a r) r (suc k) e
+  onward stages n p a rest r h k e xs app on more = by (acts r.start)
     where
-      own : (xs : List Action) (now : IsNow ps fs kinds ends stages a xs r) → action_of r.start ≡ a → (is_fed a ≡ true → r.start.fed ≡ length fs) → Rises (a ∷ xs) r (suc k) e
-      own [] now act all =
-          let t = has-turned stages a [] r now act all in
-          let size = step-frames fs a [] r.start.fed now.fed_none all in (
-            λ l. absurd (omega (arith, l, size)),
-            λ p. last-turn stages a r now t k ss e app (omega (arith, p, size)) more,
+      -- the step ends
+      ends-now : (bs : List Action) → Now stages n p a bs r → action_of r.start ≡ a → (is_fed a ≡ true → r.start.fed ≡ length fs) → r.start.polls ≡ more_of n p a
+          → Rises (frames_behind ps fs ss n p (a ∷ bs)) (sent_at fs n a r) r (suc k) e
+      ends-now [] now act all last =
+          let t = has-turned stages n p a [] r now act all last in
+          let total = all-sent stages n p a [] r now all last in (
+            λ l. absurd (omega (arith, l, total)),
+            λ q. last-turn stages n _ p a r now t k xs e app (omega (arith, q, total)) more,
           )
-      own (b ∷ xs) now act all =
-          let t = has-turned stages a (b ∷ xs) r now act all in
-          let size = step-frames fs a (b ∷ xs) r.start.fed now.fed_none all in
-          let both = on (λ i. after i (stages i) a) b xs (next-now stages a b xs r now t ss app) in
-          let n : (turned r).start.next ≡ r.start.next + 1 = ap (λ (s : StartState). s.next) t.start in
-          let m : (turned r).start.next + k ≡ r.start.next + suc k = omega (arith, n) in
-          let o : (turned r).start.fed ≡ 0 = ap (λ (s : StartState). s.fed) t.start in (
-            λ l. subst (λ (x : ℕ). IsOnItsWay x e) m (both.0 (omega (arith, l, o, size))),
-            λ p. subst (λ (x : ℕ). HasRisen (length ps) kinds ends x e) m (both.1 (omega (arith, p, o, size))),
-          )
+      ends-now (b ∷ bs) now act all last =
+          let t = has-turned stages n p a (b ∷ bs) r now act all last in
+          let total = all-sent stages n p a (b ∷ bs) r now all last in
+          let both = on (λ i. after i (stages i) a) (next_of n p a) a b bs (next-now stages n p a b bs r now total t xs app) in
+          let m : (turned r).start.next ≡ r.start.next + 1 = ap (λ (s : StartState). s.next) t.start in
+          let o : (turned r).start.fed ≡ 0 = ap (λ (s : StartState). s.fed) t.start in
+          let z : (turned r).start.polls ≡ 0 = ap (λ (s : StartState). s.polls) t.start in
+          let w : (turned r).start.polls * frames_each fs b ≡ 0 * frames_each fs b = ap (λ (x : ℕ). x * frames_each fs b) z in
+          rises-on (frames_behind ps fs ss n p (a ∷ b ∷ bs)) (sent_at fs n a r) (sent_at fs (next_of n p a) b (rising (turned r).start xs)) r (rising (turned r).start xs) k e (omega (arith, total, o, w)) m both
 
-      by : Acts r.start → Rises (a ∷ rest) r (suc k) e
-      by (Own q none) = own rest h (q ∙ step-is stages a rest r h) (fed-all stages a rest r h none)
+      -- or goes on
+      goes-now : action_of r.start ≡ a → (is_fed a ≡ true → r.start.fed ≡ length fs) → r.start.polls < more_of n p a → Rises (frames_behind ps fs ss n p (a ∷ rest)) (sent_at fs n a r) r (suc k) e
+      goes-now act all left =
+          let g = has-waited stages n p a rest r h act all left in
+          let both = on stages n p a rest (wait-now stages n p a rest r h all left g xs app) in
+          let one = own-each fs a r.start.fed h.fed_none all in
+          let c = g.start.polls in
+          let o = g.start.fed in
+          let w : (turned r).start.polls * frames_each fs a ≡ (r.start.polls + 1) * frames_each fs a = ap (λ (x : ℕ). x * frames_each fs a) c in
+          rises-on (frames_behind ps fs ss n p (a ∷ rest)) (sent_at fs n a r) (sent_at fs n a (rising (turned r).start xs)) r (rising (turned r).start xs) k e (omega (arith, w, o, one)) g.start.numbers both
+
+      by : Acts r.start → Rises (frames_behind ps fs ss n p (a ∷ rest)) (sent_at fs n a r) r (suc k) e
+      by (Own q none) =
+          let act : action_of r.start ≡ a = q ∙ step-is stages n p a rest r h in
+          let all = fed-all stages n p a rest r h none in
+          elim (cases_lt r.start.polls (more_of n p a)) [
+            | inl left ↦ goes-now act all left
+            | inr l ↦ ends-now rest h act all (let few = h.polls_few in omega (arith, l, few))
+          ]
       by (Part f q t at) =
-          let fed : is_fed a ≡ true = sym (ap is_fed (step-is stages a rest r h)) ∙ t in
-          let here : slice_get fs r.start.fed ≡ Some f = ap (λ (xs : List Feed). slice_get xs r.start.fed) (sym h.feeds_are) ∙ at in
-          let g = has-fed stages a rest r f h fed q here in
-          let both = on stages a rest (same-now stages a rest r f h fed here g ss app) in
-          let n : (turned r).start.next ≡ r.start.next + 1 = ap (λ (s : StartState). s.next) g.start in
-          let m : (turned r).start.next + k ≡ r.start.next + suc k = omega (arith, n) in
-          let o : (turned r).start.fed ≡ r.start.fed + 1 = ap (λ (s : StartState). s.fed) g.start in (
-            λ l. subst (λ (x : ℕ). IsOnItsWay x e) m (both.0 (omega (arith, l, o))),
-            λ p. subst (λ (x : ℕ). HasRisen (length ps) kinds ends x e) m (both.1 (omega (arith, p, o))),
-          )
+          let fed : is_fed a ≡ true = sym (ap is_fed (step-is stages n p a rest r h)) ∙ t in
+          let found : slice_get fs r.start.fed ≡ Some f = ap (λ (xs : List Feed). slice_get xs r.start.fed) (sym h.feeds_are) ∙ at in
+          let g = has-fed stages n p a rest r f h fed q found in
+          let both = on stages n p a rest (same-now stages n p a rest r f h fed found g xs app) in
+          let m : (turned r).start.next ≡ r.start.next + 1 = ap (λ (s : StartState). s.next) g.start in
+          let o : (turned r).start.fed ≡ r.start.fed + 1 = ap (λ (s : StartState). s.fed) g.start in
+          let c : (turned r).start.polls ≡ r.start.polls = ap (λ (s : StartState). s.polls) g.start in
+          let w : (turned r).start.polls * frames_each fs a ≡ r.start.polls * frames_each fs a = ap (λ (x : ℕ). x * frames_each fs a) c in
+          rises-on (frames_behind ps fs ss n p (a ∷ rest)) (sent_at fs n a r) (sent_at fs n a (rising (turned r).start xs)) r (rising (turned r).start xs) k e (omega (arith, w, o)) m both
 
-  pub rises : (stages : ℕ → Stage) (a : Action) (rest : List Action) (r : Rising) → IsNow ps fs kinds ends stages a rest r → (k : ℕ) (e : Rising) → TurnsTo k r e → Rises (a ∷ rest) r k e
-  rises stages a rest r h zero e (Stays_on _) =
+  pub rises : (stages : ℕ → Stage) (n : ℕ) (p a : Action) (rest : List Action) (r : Rising) → Now stages n p a rest r → (k : ℕ) (e : Rising) → TurnsTo k r e → Rises (frames_behind ps fs ss n p (a ∷ rest)) (sent_at fs n a r) r k e
+  rises stages n p a rest r h zero e (Stays_on _) =
       let z : r.start.next ≡ r.start.next + 0 = omega arith in
-      let left = fed-left fs a rest r.start.fed h.fed_few h.fed_none in
-      (λ l. record { idle = h.idle; good = good-next stages a rest r h; next_number = z }, λ q. absurd (omega (arith, q, left)))
-  rises stages a rest r h (suc k) e (Turns _ _ _ ss app more) =
-      onward stages a rest r h k e ss app (λ later b xs now. rises later b xs (rising (turned r).start ss) now k e more) more
+      let more = behind-more ps fs ss (next_of n p a) a rest in
+      let polls = h.polls_few in
+      let w = mul-le-mul_right (frames_each fs a) polls in
+      let fed = fed-within fs a r.start.fed h.fed_few h.fed_none in
+      (λ l. record { idle = h.idle; good = good-next stages n p a rest r h; next_number = z }, λ q. absurd (omega (arith, q, more, w, fed)))
+  rises stages n p a rest r h (suc k) e (Turns _ _ _ xs app more) =
+      onward stages n p a rest r h k e xs app (λ later m q b bs now. rises later m q b bs (rising (turned r).start xs) now k e more) more
 
 -- ---- the script as a walk: each wait stands right behind what it waits for
 
@@ -500,18 +722,19 @@ free-append : (hw : Bool) (n : ℕ) (xs bs : List Action) → Free hw n xs → F
 free-append hw n xs bs h k = λ p. chain-append hw n p xs bs (h p) k
 
 -- a plan whose slave can be reached, and has numbers for its managers
-pub record IsFree (q : SlavePlan) : Type 0 where
+pub record IsFree (hw : Bool) (q : SlavePlan) : Type 0 where
   pub reach : CanReach q.kind.mailbox
   pub numbered : AreNumbered q.kind.hardware
+  pub alike : is_some q.kind.hardware ≡ hw
 
-each-free : (f : ℕ → SlavePlan → List Action) (hw : Bool) (n k : ℕ) (ps : List SlavePlan) → k + length ps ≤ n → ((i : ℕ) → i < length ps → IsFree (plan_at ps i))
-    → ((t : ℕ) (q : SlavePlan) → t < n → IsFree q → Free hw n (f t q)) → Free hw n (each_slave f k ps)
+each-free : (f : ℕ → SlavePlan → List Action) (hw : Bool) (n k : ℕ) (ps : List SlavePlan) → k + length ps ≤ n → ((i : ℕ) → i < length ps → IsFree hw (plan_at ps i))
+    → ((t : ℕ) (q : SlavePlan) → t < n → IsFree hw q → Free hw n (f t q)) → Free hw n (each_slave f k ps)
 each-free f hw n k [] l r h = λ p. tt
 each-free f hw n k (q ∷ ps) l r h = free-append hw n (f k q) (each_slave f (k + 1) ps) (h k q (omega (arith, l)) (r 0 (omega arith))) (each-free f hw n (k + 1) ps (omega (arith, l)) (λ i b. r (suc i) (omega (arith, b))) h)
 
-settled-free : (hw : Bool) (n t : ℕ) (o : Option Hardware) → t < n → Free hw n (settled_by t o)
-settled-free hw n t None l = λ p. tt
-settled-free hw n t (Some h) l = elim h.has_firmware as (λ b. Free hw n (if b then AwaitCleanInit t ∷ [] else [])) [ true ↦ (λ p. (tt, l, tt, tt)) | false ↦ (λ p. tt) ]
+settled-free : (hw : Bool) (n t : ℕ) (o : Option Hardware) → t < n → is_some o ≡ hw → Free hw n (settled_by t o)
+settled-free hw n t None l e = λ p. tt
+settled-free hw n t (Some h) l e = elim h.has_firmware as (λ b. Free hw n (if b then AwaitCleanInit t ∷ [] else [])) [ true ↦ (λ p. (tt, (l, sym e), tt, tt)) | false ↦ (λ p. tt) ]
 
 identified-free : (hw : Bool) (n t : ℕ) (q : SlavePlan) → t < n → Free hw n (identified t q)
 identified-free hw n t q l =
@@ -531,13 +754,14 @@ mailbox-free hw n t q (Some b) l a =
 raised-free : (hw : Bool) (n t : ℕ) (to : State) (q : SlavePlan) → t < n → Free hw n (raised to t q)
 raised-free hw n t to q l = λ p. (tt, l, tt, (refl, l, tt, tt))
 
-exchanged-free : (hw : Bool) (n t counter : ℕ) (b : Mailbox) (rs : List SdoRequest) → t < n → IsReachable b → Free hw n (exchanged t b counter rs)
+exchanged-free : (hw : Bool) (n t counter : ℕ) (b : Mailbox) (rs : List SdoRequest) → t < n → IsReachable b → Free hw n (exchanged hw t b counter rs)
 exchanged-free hw n t counter b [] l r = λ p. tt
-exchanged-free hw n t counter b (x ∷ rs) l r = λ p. (tt, l, r, ((counter, refl), l, r, exchanged-free hw n t (counter + 1) b rs l r (AwaitReply t b x)))
+exchanged-free true n t counter b (x ∷ rs) l r = λ p. (tt, l, r, ((counter, refl), (l, refl), r, exchanged-free true n t (counter + 1) b rs l r (AwaitFreeReply t b x)))
+exchanged-free false n t counter b (x ∷ rs) l r = λ p. (tt, l, r, ((counter, refl), (l, refl), r, exchanged-free false n t (counter + 1) b rs l r (AwaitReply t b x)))
 
-talked-free : (hw : Bool) (n t : ℕ) (q : SlavePlan) (o : Option Mailbox) → t < n → CanReach o → Free hw n (talked t q o)
-talked-free hw n t q None l r = λ p. tt
-talked-free hw n t q (Some b) l r = exchanged-free hw n t 0 b (requests q) l r
+talked-free : (hw : Bool) (n t : ℕ) (q : SlavePlan) (o : Option Mailbox) → t < n → CanReach o → is_some q.kind.hardware ≡ hw → Free hw n (talked t q o)
+talked-free hw n t q None l r e = λ p. tt
+talked-free hw n t q (Some b) l r e = subst (λ (x : Bool). Free hw n (exchanged x t b 0 (requests q))) (sym e) (exchanged-free hw n t 0 b (requests q) l r)
 
 manager-free : (hw : Bool) (n t k : ℕ) (q : SlavePlan) (b : Bool) → t < n → k < 4 → AreNumbered q.kind.hardware → Free hw n (if b then [] else set_manager t q k ∷ [])
 manager-free hw n t k q true l f a = λ p. tt
@@ -553,28 +777,28 @@ mapped-free hw n t q l a =
     (free-append hw n _ _ (manager-free hw n t 3 q ((settings_at q.managers 3).activate == 0) l (omega arith) a)
     (free-append hw n _ _ (fmmu-free hw n t 0 q (fmmu_at q.fmmus 0).active l (omega arith)) (fmmu-free hw n t 1 q (fmmu_at q.fmmus 1).active l (omega arith))))
 
--- what is asked of all at the beginning
-opened-free : (hw : Bool) (n : ℕ) → Free hw n (opened hw)
-opened-free true n = λ p. (tt, tt, tt, (refl, tt, tt, (tt, tt, tt, (tt, tt, tt, (tt, tt, tt, (tt, tt, tt, (tt, tt, tt, (tt, tt, tt, tt))))))))
-opened-free false n = λ p. (tt, tt, tt, (refl, refl, tt, (tt, refl, tt, (tt, tt, tt, (tt, tt, tt, tt)))))
+-- what is asked of all at the beginning, behind the frame that counts the slaves
+opened-chained : (hw : Bool) (n : ℕ) → Chained hw n CountSlaves (opened hw)
+opened-chained true n = (refl, tt, tt, (refl, refl, tt, (tt, tt, tt, (tt, tt, tt, (tt, tt, tt, (tt, tt, tt, (tt, tt, tt, (tt, tt, tt, tt))))))))
+opened-chained false n = (refl, tt, tt, (refl, refl, tt, (tt, refl, tt, (tt, tt, tt, (tt, tt, tt, tt)))))
 
 closed-free : (hw : Bool) (n : ℕ) → Free hw n (closed hw)
 closed-free true n = λ p. (tt, tt, tt, tt)
 closed-free false n = λ p. tt
 
-pub phases-free : (ps : List SlavePlan) → ((i : ℕ) → i < length ps → IsFree (plan_at ps i)) → Free (is_hardware ps) (length ps) (phases ps)
-phases-free ps r =
+pub phases-chained : (ps : List SlavePlan) → ((i : ℕ) → i < length ps → IsFree (is_hardware ps) (plan_at ps i)) → Chained (is_hardware ps) (length ps) CountSlaves (phases ps)
+phases-chained ps r =
     let k : 0 + length ps ≤ length ps = omega arith in
     let hw : Bool = is_hardware ps in
     let n : ℕ = length ps in
-    free-append hw n (opened hw) _ (opened-free hw n)
+    chain-append hw n CountSlaves (opened hw) _ (opened-chained hw n)
     (free-append hw n (each_slave named 0 ps) _ (each-free named hw n 0 ps k r (λ t q l c p. (tt, l, tt, tt)))
-    (free-append hw n (each_slave settled 0 ps) _ (each-free settled hw n 0 ps k r (λ t q l c. settled-free hw n t q.kind.hardware l))
+    (free-append hw n (each_slave settled 0 ps) _ (each-free settled hw n 0 ps k r (λ t q l c. settled-free hw n t q.kind.hardware l c.alike))
     (free-append hw n (each_slave identified 0 ps) _ (each-free identified hw n 0 ps k r (λ t q l c. identified-free hw n t q l))
     (free-append hw n (closed hw) _ (closed-free hw n)
     (free-append hw n (each_slave (λ i q. mailbox_set i q q.kind.mailbox) 0 ps) _ (each-free (λ i q. mailbox_set i q q.kind.mailbox) hw n 0 ps k r (λ t q l c. mailbox-free hw n t q q.kind.mailbox l c.numbered))
     (free-append hw n (each_slave (raised PreOp) 0 ps) _ (each-free (raised PreOp) hw n 0 ps k r (λ t q l c. raised-free hw n t PreOp q l))
-    (free-append hw n (each_slave (λ i q. talked i q q.kind.mailbox) 0 ps) _ (each-free (λ i q. talked i q q.kind.mailbox) hw n 0 ps k r (λ t q l c. talked-free hw n t q q.kind.mailbox l c.reach))
+    (free-append hw n (each_slave (λ i q. talked i q q.kind.mailbox) 0 ps) _ (each-free (λ i q. talked i q q.kind.mailbox) hw n 0 ps k r (λ t q l c. talked-free hw n t q q.kind.mailbox l c.reach c.alike))
     (free-append hw n (each_slave mapped 0 ps) _ (each-free mapped hw n 0 ps k r (λ t q l c. mapped-free hw n t q l c.numbered))
     (free-append hw n (each_slave (raised SafeOp) 0 ps) _ (each-free (raised SafeOp) hw n 0 ps k r (λ t q l c. raised-free hw n t SafeOp q l))
     (each-free (raised Op) hw n 0 ps k r (λ t q l c. raised-free hw n t Op q l)))))))))))

@@ -1,6 +1,6 @@
 -- The script brings every slave to the top: the actions fit one after another.
-use Rattle.ec_bringup.proofs.Words.{has_firmware, ℕ, suc, ◌+◌, ◌-◌, ◌<◌, ◌≤◌, ◌≡◌, ◌≢◌, refl, sym, ◌∙◌, ap, subst, inl, inr, arith, List, [], ◌∷◌, ◌++◌, length, get_or, ◌==◌, Bool, true, false, Option, Some, None, if◌then◌else◌, set, cases_eq, eq-eqb, if_true, SlavePlan, Action, AskWord, AwaitWord, SetManager, AskState, AwaitState, SendRequest, AwaitReply, each_slave, named, identified, mailbox_set, raised, exchanged, talked, manager_set, fmmu_set, mapped, phases, script, requests, Config, Stage, Up, config_after, after, Fits, CanAct, talked_over, asked_all, prepared, end_of, Rise, Stays, Before, Down, fresh, answered, answered_by, claimed, CanClimb, IsClimbing, climbing, IsLow, IsStepUp, Leads, SyncManagerSettings, FmmuSettings, Mailbox, no_settings, no_fmmu, State, Init, PreOp, SafeOp, Op, output_assignment, input_assignment, settings_at, fmmu_at, SdoRequest, Transfer, Download, Upload, AreRequests, IsStartable, AreMailboxes, Falls, Climbs, Lowered, named_of, IsClear, IsAtInit, IsNamed, AreNamed, AreNumbered, Hardware, fmmu_count, other_name, register_of, set_manager, set_fmmu, settled, settled_by, opened, closed, is_hardware, AwaitCleanInit, SlaveKind, ManagerRegister}
-use Rattle.ec_bringup.proofs.OneFrame.OtherSlaves.{others-stay, ForAwaitCleanInit, ForAskState, ForAskWord, ForAwaitReply, ForAwaitState, ForAwaitWord, ForSend, ForSetFmmu, ForSetManager, IsFor, as_one, mine-told}
+use Rattle.ec_bringup.proofs.Words.{has_firmware, ℕ, suc, ◌+◌, ◌-◌, ◌<◌, ◌≤◌, ◌≡◌, ◌≢◌, refl, sym, ◌∙◌, ap, subst, inl, inr, arith, List, [], ◌∷◌, ◌++◌, length, get_or, ◌==◌, Bool, true, false, Option, Some, None, if◌then◌else◌, set, cases_eq, eq-eqb, if_true, SlavePlan, Action, AskWord, AwaitWord, SetManager, AskState, AwaitState, SendRequest, AwaitReply, AwaitFreeReply, reply_awaited, is_some, SdoValue, each_slave, named, identified, mailbox_set, raised, exchanged, talked, manager_set, fmmu_set, mapped, phases, script, requests, Config, Stage, Up, config_after, after, Fits, CanAct, talked_over, asked_all, prepared, end_of, Rise, Stays, Before, Down, fresh, answered, answered_by, claimed, CanClimb, IsClimbing, climbing, IsLow, IsStepUp, Leads, SyncManagerSettings, FmmuSettings, Mailbox, no_settings, no_fmmu, State, Init, PreOp, SafeOp, Op, output_assignment, input_assignment, settings_at, fmmu_at, SdoRequest, Transfer, Download, Upload, AreRequests, IsStartable, AreMailboxes, Falls, Climbs, Lowered, named_of, IsClear, IsAtInit, IsNamed, AreNamed, AreNumbered, Hardware, fmmu_count, other_name, register_of, set_manager, set_fmmu, settled, settled_by, opened, closed, is_hardware, AwaitCleanInit, SlaveKind, ManagerRegister}
+use Rattle.ec_bringup.proofs.OneFrame.OtherSlaves.{others-stay, ForAwaitCleanInit, ForAskState, ForAskWord, ForAwaitReply, ForAwaitFreeReply, ForAwaitState, ForAwaitWord, ForSend, ForSetFmmu, ForSetManager, IsFor, as_one, mine-told}
 
 -- ---- runs of actions
 
@@ -106,16 +106,31 @@ answered-frame c r (Download v) = by (r.index == output_assignment) (r.index == 
     by false true = record { managers = refl; fmmus = refl; idle = refl; talk = refl; rise = refl }
     by false false = record { managers = refl; fmmus = refl; idle = refl; talk = refl; rise = refl }
 
+-- and it was done
+pub answered-done : (c : Config) (r : SdoRequest) → (answered c r).done ≡ c.done ++ r ∷ []
+answered-done c r = by-done (record c { done = c.done ++ r ∷ [] }) r.transfer
+  where
+    by : (d : Config) (v : SdoValue) (a b : Bool) → (if a then record d { talk = None; outs = claimed d.outs r.subindex v.number }
+        else (if b then record d { talk = None; ins = claimed d.ins r.subindex v.number } else record d { talk = None })).done ≡ d.done
+    by d v true b = refl
+    by d v false true = refl
+    by d v false false = refl
+
+    by-done : (d : Config) (x : Transfer) → (answered_by d r x).done ≡ d.done
+    by-done d (Upload v) = refl
+    by-done d (Download v) = by d v (r.index == output_assignment) (r.index == input_assignment)
+
 pub talked-frame : (c : Config) (rs : List SdoRequest) → c.talk ≡ None → SameFrame c (talked_over c rs)
 talked-frame c [] e = record { managers = refl; fmmus = refl; idle = refl; talk = e; rise = refl }
 talked-frame c (r ∷ rs) e =
-    let a = answered-frame c r r.transfer in
+    let a = answered-frame (record c { done = c.done ++ r ∷ [] }) r r.transfer in
     let b = talked-frame (answered c r) rs a.talk in
     record { managers = b.managers ∙ a.managers; fmmus = b.fmmus ∙ a.fmmus; idle = b.idle ∙ a.idle; talk = b.talk; rise = b.rise ∙ a.rise }
 
-pub exchanged-for : (i counter : ℕ) (b : Mailbox) (rs : List SdoRequest) → AreFor i (exchanged i b counter rs)
-exchanged-for i counter b [] = tt
-exchanged-for i counter b (r ∷ rs) = (ForSend i counter b r, (ForAwaitReply i b r, exchanged-for i (counter + 1) b rs))
+pub exchanged-for : (hardware : Bool) (i counter : ℕ) (b : Mailbox) (rs : List SdoRequest) → AreFor i (exchanged hardware i b counter rs)
+exchanged-for hardware i counter b [] = tt
+exchanged-for true i counter b (r ∷ rs) = (ForSend i counter b r, (ForAwaitFreeReply i b r, exchanged-for true i (counter + 1) b rs))
+exchanged-for false i counter b (r ∷ rs) = (ForSend i counter b r, (ForAwaitReply i b r, exchanged-for false i (counter + 1) b rs))
 
 -- ---- the opening, with `hardware` and without
 
@@ -148,6 +163,15 @@ settled_rise (Some h) r = if h.has_firmware then Stays Init else r
 pub settled-low : (o : Option Hardware) (r : Rise) → IsAtInit r → IsAtInit (settled_rise o r)
 settled-low None r at = at
 settled-low (Some h) r at = elim h.has_firmware as (λ b. IsAtInit (if b then Stays Init else r)) [ true ↦ tt | false ↦ at ]
+
+-- a slave that has firmware has settled
+settled-bare : (o : Option Hardware) (r : Rise) → settled_rise o r ≡ Falls → (o ≡ None → r ≡ Stays Init) → has_firmware o ≡ false
+settled-bare None r e plain = absurd (let f : Stays Init ≡ Falls = sym (plain refl) ∙ e in cc)
+settled-bare (Some h) r e plain = by h.has_firmware e
+  where
+    by : (b : Bool) → (if b then Stays Init else r) ≡ Falls → b ≡ false
+    by true q = absurd (cc q)
+    by false q = refl
 
 low-at-init : (r : Rise) → IsAtInit r → IsLow r
 low-at-init Falls at = tt
@@ -202,7 +226,7 @@ mapped-for i p =
 
 talked-for : (i : ℕ) (p : SlavePlan) (o : Option Mailbox) → AreFor i (talked i p o)
 talked-for i p None = tt
-talked-for i p (Some b) = exchanged-for i 0 b (requests p)
+talked-for i p (Some b) = exchanged-for (is_some p.kind.hardware) i 0 b (requests p)
 
 abbrev pub mapped_to : Config → SlavePlan → Config
 mapped_to c p = record c { managers = p.managers; fmmus = p.fmmus }
@@ -215,23 +239,35 @@ IsEasy (AskWord t which) = which < 3
 IsEasy (AwaitWord t which) = which < 3
 IsEasy (AwaitCleanInit t) = ⊥
 IsEasy (AskState t to) = ⊥
+IsEasy (AwaitState t to) = ⊥
 IsEasy (SendRequest t counter b r) = ⊥
+IsEasy (AwaitReply t b r) = ⊥
+IsEasy (AwaitFreeReply t b r) = ⊥
 IsEasy _ = Unit {0}
 
--- each request that is sent, at what is known by the ones before it
-abbrev pub AllSent : (Config → Action → Type 0) → ℕ → ℕ → Mailbox → Config → List SdoRequest → Type 0
-AllSent B i counter b c [] = Unit {0}
-AllSent B i counter b c (r ∷ rs) = B c (SendRequest i counter b r) × AllSent B i (counter + 1) b (answered c r) rs
+-- a request that was sent
+abbrev pub talking : Config → ℕ → Mailbox → SdoRequest → Config
+talking c counter b r = record c { talk = Some (record { mailbox = b; counter = counter; request = r }) }
+
+-- each request that is sent, at what is known by the ones before it, and the wait for its reply
+abbrev pub AllSent : (Config → Action → Type 0) → (hardware : Bool) → ℕ → ℕ → Mailbox → Config → List SdoRequest → Type 0
+AllSent B hardware i counter b c [] = Unit {0}
+AllSent B hardware i counter b c (r ∷ rs) =
+    B c (SendRequest i counter b r) × B (talking c counter b r) (reply_awaited hardware i b r) × AllSent B hardware i (counter + 1) b (answered c r) rs
+
+-- a state that is asked for, and the wait for it
+abbrev pub BearsUp : (Config → Action → Type 0) → ℕ → Config → State → Type 0
+BearsUp B i c to = B c (AskState i to) × B (record c { rise = climbing c.rise to }) (AwaitState i to)
 
 -- what the plan of slave i has to give
 pub record Bearing (B : Config → Action → Type 0) (i : ℕ) (p : SlavePlan) : Type 0 where
   pub easy : (c : Config) (a : Action) → IsEasy a → B c a
   -- of a type of real devices that has firmware
   pub clean : (c : Config) → has_firmware p.kind.hardware ≡ true → B c (AwaitCleanInit i)
-  pub to_preop : (r : Rise) → B (record (boxed (settings_at p.managers 0) (settings_at p.managers 1)) { rise = r }) (AskState i PreOp)
-  pub sends : (b : Mailbox) → p.kind.mailbox ≡ Some b → AllSent B i 0 b (prepared p) (requests p)
-  pub to_safeop : B (mapped_to (asked_all (prepared p) p p.kind.mailbox) p) (AskState i SafeOp)
-  pub to_op : B (record (mapped_to (asked_all (prepared p) p p.kind.mailbox) p) { rise = Stays SafeOp }) (AskState i Op)
+  pub to_preop : (r : Rise) → (r ≡ Falls → has_firmware p.kind.hardware ≡ false) → BearsUp B i (record (boxed (settings_at p.managers 0) (settings_at p.managers 1)) { rise = r }) PreOp
+  pub sends : (b : Mailbox) → p.kind.mailbox ≡ Some b → AllSent B (is_some p.kind.hardware) i 0 b (prepared p) (requests p)
+  pub to_safeop : BearsUp B i (mapped_to (asked_all (prepared p) p p.kind.mailbox) p) SafeOp
+  pub to_op : BearsUp B i (record (mapped_to (asked_all (prepared p) p p.kind.mailbox) p) { rise = Stays SafeOp }) Op
 
 pub asked-frame : (p : SlavePlan) (o : Option Mailbox) → SameFrame (prepared p) (asked_all (prepared p) p o)
 asked-frame p None = record { managers = refl; fmmus = refl; idle = refl; talk = refl; rise = refl }
@@ -261,43 +297,53 @@ module _ (B : Config → Action → Type 0) (i : ℕ) (easy : (c : Config) (a : 
       (word-tells 1 (record identity_known { rise = r }) (record identity_known { rise = r }) (AskWord i 2 ∷ AwaitWord i 2 ∷ []) (omega arith) low refl
       (word-tells 2 (record identity_known { rise = r }) (record identity_known { rise = r }) [] (omega arith) low refl refl))
 
-  mailbox-tells : (p : SlavePlan) (o : Option Mailbox) (r : Rise) → IsLow r → (o ≡ None → identity_known ≡ boxed (settings_at p.managers 0) (settings_at p.managers 1))
+  mailbox-tells : (p : SlavePlan) (o : Option Mailbox) (r : Rise) → IsAtInit r → (o ≡ None → identity_known ≡ boxed (settings_at p.managers 0) (settings_at p.managers 1))
       → Tells B (record identity_known { rise = r }) (mailbox_set i p o) (record (boxed (settings_at p.managers 0) (settings_at p.managers 1)) { rise = r })
   mailbox-tells p None r low h = ap (λ (c : Config). record c { rise = r }) (h refl)
-  mailbox-tells p (Some b) r low h = ((low, omega arith, refl, refl), easy _ (set_manager i p 0) tt, ((low, omega arith, refl, refl), easy _ (set_manager i p 1) tt, refl))
+  mailbox-tells p (Some b) r low h = ((low-at-init r low, omega arith, refl, refl, λ l. low), easy _ (set_manager i p 0) tt, ((low-at-init r low, omega arith, refl, refl, λ l. low), easy _ (set_manager i p 1) tt, refl))
 
   -- a step up, from a state that allows it
-  steps-tells : (to : State) (p : SlavePlan) (c : Config) → c.talk ≡ None → CanClimb c.rise to → IsClimbing (climbing c.rise to) to → B c (AskState i to) → Tells B c (raised to i p) (record c { rise = Stays to })
-  steps-tells to p c none can climbs asks = ((none, can), asks, ((none, climbs), easy _ (AwaitState i to) tt, refl))
+  steps-tells : (to : State) (p : SlavePlan) (c : Config) → c.talk ≡ None → CanClimb c.rise to → IsClimbing (climbing c.rise to) to → BearsUp B i c to → Tells B c (raised to i p) (record c { rise = Stays to })
+  steps-tells to p c none can climbs asks = ((none, can), asks.0, ((none, climbs), asks.1, refl))
 
-  raised-tells : (from to : State) (p : SlavePlan) (c : Config) → c.rise ≡ Stays from → c.talk ≡ None → IsStepUp from to → B c (AskState i to) → Tells B c (raised to i p) (record c { rise = Stays to })
+  raised-tells : (from to : State) (p : SlavePlan) (c : Config) → c.rise ≡ Stays from → c.talk ≡ None → IsStepUp from to → BearsUp B i c to → Tells B c (raised to i p) (record c { rise = Stays to })
   raised-tells from to p c e none up asks =
       steps-tells to p c none (subst (λ (r : Rise). CanClimb r to) (sym e) up) (subst (λ (r : Rise). IsClimbing (climbing r to) to) (sym e) (up, refl)) asks
 
-  exchanged-tells : (counter : ℕ) (b : Mailbox) (c : Config) (rs : List SdoRequest) → IsLow c.rise → c.talk ≡ None → AreMailboxes b c.managers → AreRequests rs → AllSent B i counter b c rs
-      → Tells B c (exchanged i b counter rs) (talked_over c rs)
-  exchanged-tells counter b c [] low none boxes qs h = refl
-  exchanged-tells counter b c (r ∷ rs) low none boxes qs h =
-      let a = answered-frame c r r.transfer in (
+  exchanged-tells : (hardware : Bool) (counter : ℕ) (b : Mailbox) (c : Config) (rs : List SdoRequest) → c.rise ≡ Stays PreOp → c.talk ≡ None → AreMailboxes b c.managers → AreRequests rs → AllSent B hardware i counter b c rs
+      → Tells B c (exchanged hardware i b counter rs) (talked_over c rs)
+  exchanged-tells hardware counter b c [] low none boxes qs h = refl
+  exchanged-tells true counter b c (r ∷ rs) low none boxes qs h =
+      let a = answered-frame (record c { done = c.done ++ r ∷ [] }) r r.transfer in (
         (low, none, boxes, qs.0),
         h.0,
         (
           (low, (counter, refl), boxes),
-          easy _ (AwaitReply i b r) tt,
-          exchanged-tells (counter + 1) b (answered c r) rs (subst (λ (x : Rise). IsLow x) (sym a.rise) low) a.talk (subst (λ (x : List SyncManagerSettings). AreMailboxes b x) (sym a.managers) boxes) qs.1 h.1,
+          h.1,
+          exchanged-tells true (counter + 1) b (answered c r) rs (a.rise ∙ low) a.talk (subst (λ (x : List SyncManagerSettings). AreMailboxes b x) (sym a.managers) boxes) qs.1 h.2,
+        ),
+      )
+  exchanged-tells false counter b c (r ∷ rs) low none boxes qs h =
+      let a = answered-frame (record c { done = c.done ++ r ∷ [] }) r r.transfer in (
+        (low, none, boxes, qs.0),
+        h.0,
+        (
+          (low, (counter, refl), boxes),
+          h.1,
+          exchanged-tells false (counter + 1) b (answered c r) rs (a.rise ∙ low) a.talk (subst (λ (x : List SyncManagerSettings). AreMailboxes b x) (sym a.managers) boxes) qs.1 h.2,
         ),
       )
 
-  talked-tells : (p : SlavePlan) (o : Option Mailbox) → AreRequests (requests p) → ((b : Mailbox) → o ≡ Some b → AreMailboxes b (prepared p).managers × AllSent B i 0 b (prepared p) (requests p))
+  talked-tells : (p : SlavePlan) (o : Option Mailbox) → AreRequests (requests p) → ((b : Mailbox) → o ≡ Some b → AreMailboxes b (prepared p).managers × AllSent B (is_some p.kind.hardware) i 0 b (prepared p) (requests p))
       → Tells B (prepared p) (talked i p o) (asked_all (prepared p) p o)
   talked-tells p None q h = refl
-  talked-tells p (Some b) q h = exchanged-tells 0 b (prepared p) (requests p) tt refl (h b refl).0 q (h b refl).1
+  talked-tells p (Some b) q h = exchanged-tells (is_some p.kind.hardware) 0 b (prepared p) (requests p) refl refl (h b refl).0 q (h b refl).1
 
   -- a manager, or an FMMU, that is set in its place, or is nothing there and in the plan
-  manager-tells : (n : ℕ) (c : Config) (m : SyncManagerSettings) (b : Bool) → n < 4 → length c.managers ≡ 4 → IsLow c.rise → c.talk ≡ None → set c.managers n no_settings ≡ c.managers
+  manager-tells : (n : ℕ) (c : Config) (m : SyncManagerSettings) (b : Bool) → 2 ≤ n → n < 4 → length c.managers ≡ 4 → IsLow c.rise → c.talk ≡ None → set c.managers n no_settings ≡ c.managers
       → (b ≡ true → m ≡ no_settings) → (q : ManagerRegister) → Tells B c (if b then [] else SetManager i n m q ∷ []) (record c { managers = set c.managers n m })
-  manager-tells n c m true l four low none same unset q = ap (λ (ms : List SyncManagerSettings). record c { managers = ms }) (sym (ap (set c.managers n) (unset refl) ∙ same))
-  manager-tells n c m false l four low none same unset q = ((low, omega arith, four, none), easy _ (SetManager i n m q) tt, refl)
+  manager-tells n c m true high l four low none same unset q = ap (λ (ms : List SyncManagerSettings). record c { managers = ms }) (sym (ap (set c.managers n) (unset refl) ∙ same))
+  manager-tells n c m false high l four low none same unset q = ((low, omega arith, four, none, λ z. absurd (omega (arith, z, high))), easy _ (SetManager i n m q) tt, refl)
 
   fmmu-tells : (n : ℕ) (p : SlavePlan) (c : Config) (b : Bool) → n < 4 → length c.fmmus ≡ 4 → IsLow c.rise → c.talk ≡ None → set c.fmmus n no_fmmu ≡ c.fmmus
       → (b ≡ false → fmmu_at p.fmmus n ≡ no_fmmu) → Tells B c (fmmu_set i p n b) (record c { fmmus = set c.fmmus n (fmmu_at p.fmmus n) })
@@ -317,8 +363,8 @@ module _ (B : Config → Action → Type 0) (i : ℕ) (easy : (c : Config) (a : 
       let c5 : Config = record c { managers = ms; fmmus = fs } in
       subst (λ x. Maps B i p c x c.managers p.fmmus c.fmmus) (sym h.managers) (subst (λ x. Maps B i p c ms c.managers x c.fmmus) (sym h.fmmus)
       (subst (λ x. Maps B i p c ms x fs c.fmmus) (sym em) (subst (λ x. Maps B i p c ms c1.managers fs x) (sym ef)
-      (tells-append B c1 c2 c5 (manager_set i q 2) _ (manager-tells 2 c1 h.m2 (h.m2.activate == 0) (omega arith) refl low none refl h.no_outputs _)
-      (tells-append B c2 c3 c5 (manager_set i q 3) _ (manager-tells 3 c2 h.m3 (h.m3.activate == 0) (omega arith) refl low none refl h.no_inputs _)
+      (tells-append B c1 c2 c5 (manager_set i q 2) _ (manager-tells 2 c1 h.m2 (h.m2.activate == 0) (omega arith) (omega arith) refl low none refl h.no_outputs _)
+      (tells-append B c2 c3 c5 (manager_set i q 3) _ (manager-tells 3 c2 h.m3 (h.m3.activate == 0) (omega arith) (omega arith) refl low none refl h.no_inputs _)
       (tells-append B c3 c4 c5 (fmmu_set i q 0 h.f0.active) _ (fmmu-tells 0 q c3 h.f0.active (omega arith) refl low none refl h.no_out_fmmu)
       (fmmu-tells 1 q c4 h.f1.active (omega arith) refl low none refl h.no_in_fmmu)))))))
 
@@ -349,8 +395,8 @@ module _ (B : Config → Action → Type 0) (i : ℕ) (d : SlavePlan) where
   given-back true c = (tt, λ is. elim is [ ], refl)
   given-back false c = refl
 
-  phases-walk : (ps : List SlavePlan) → i < length ps → length ps ≤ 64 → IsStartable (get_or ps i d) → Bearing B i (get_or ps i d) → Walks B i Before (phases ps) (Up (end_of (get_or ps i d)))
-  phases-walk ps l b h v =
+  phases-walk : (ps : List SlavePlan) → i < length ps → length ps ≤ 64 → IsStartable (get_or ps i d) → is_some (get_or ps i d).kind.hardware ≡ is_hardware ps → Bearing B i (get_or ps i d) → Walks B i Before (phases ps) (Up (end_of (get_or ps i d)))
+  phases-walk ps l b h alike v =
       let p : SlavePlan = get_or ps i d in
       let o : Option Mailbox = p.kind.mailbox in
       let e : (prepared p).managers ≡ h.m0 ∷ h.m1 ∷ no_settings ∷ no_settings ∷ []
@@ -358,6 +404,7 @@ module _ (B : Config → Action → Type 0) (i : ℕ) (d : SlavePlan) where
       let none : o ≡ None → h.m0 ∷ h.m1 ∷ no_settings ∷ no_settings ∷ [] ≡ no_settings ∷ no_settings ∷ no_settings ∷ no_settings ∷ []
       = λ q. let n = h.no_mailbox q in cc (n.0, n.1) in
       let hw : Bool = is_hardware ps in
+      let plain : p.kind.hardware ≡ None → named_rise hw ≡ Stays Init = λ z. ap named_rise (sym alike ∙ ap is_some z) in
       let r0 : Rise = named_rise hw in
       let r1 : Rise = settled_rise p.kind.hardware r0 in
       let at : IsAtInit r1 = settled-low p.kind.hardware r0 (named-low hw) in
@@ -379,10 +426,10 @@ module _ (B : Config → Action → Type 0) (i : ℕ) (d : SlavePlan) where
       (walks-append B i (closed hw) _ (Up k1) (Up k1) (Up (end_of p)) (given-back hw k1)
       (walks-append B i (each_slave (λ j q. mailbox_set j q q.kind.mailbox) 0 ps) _ (Up k1) (Up c2) (Up (end_of p))
       (phase-walks (λ j q. mailbox_set j q q.kind.mailbox) (λ t q. mailbox-for t q q.kind.mailbox) ps k1 c2 l b
-      (mailbox-tells B i v.easy p o r1 (low-at-init r1 at) (λ q. ap (λ (ms : List SyncManagerSettings). record identity_known { managers = ms }) (sym (e ∙ none q)))))
+      (mailbox-tells B i v.easy p o r1 at (λ q. ap (λ (ms : List SyncManagerSettings). record identity_known { managers = ms }) (sym (e ∙ none q)))))
       (walks-append B i (each_slave (raised PreOp) 0 ps) _ (Up c2) (Up (prepared p)) (Up (end_of p))
       (phase-walks (raised PreOp) (raised-for PreOp) ps c2 (prepared p) l b
-      (steps-tells B i v.easy PreOp p c2 refl (can-at-init r1 at) (subst (λ (r : Rise). IsClimbing r PreOp) (sym (climbs-at-init r1 at)) (tt, refl)) (v.to_preop r1)))
+      (steps-tells B i v.easy PreOp p c2 refl (can-at-init r1 at) (subst (λ (r : Rise). IsClimbing r PreOp) (sym (climbs-at-init r1 at)) (tt, refl)) (v.to_preop r1 (λ q. settled-bare p.kind.hardware r0 q plain))))
       (walks-append B i (each_slave (λ j q. talked j q q.kind.mailbox) 0 ps) _ (Up (prepared p)) (Up c4) (Up (end_of p))
       (phase-walks (λ j q. talked j q q.kind.mailbox) (λ t q. talked-for t q q.kind.mailbox) ps (prepared p) c4 l b
       (talked-tells B i v.easy p o h.requests (λ x q. (subst (λ (ms : List SyncManagerSettings). AreMailboxes x ms) (sym e) (h.mailbox x q), v.sends x q))))
@@ -394,18 +441,20 @@ module _ (B : Config → Action → Type 0) (i : ℕ) (d : SlavePlan) where
 
 -- of a plan with slaves
 pub script-walks : (B : Config → Action → Type 0) (d p : SlavePlan) (ps : List SlavePlan) (i : ℕ) → i < length (p ∷ ps) → length (p ∷ ps) ≤ 64 → IsStartable (get_or (p ∷ ps) i d)
-    → Bearing B i (get_or (p ∷ ps) i d) → Walks B i Before (script (p ∷ ps)) (Up (end_of (get_or (p ∷ ps) i d)))
-script-walks B d p ps i l b h v = (tt, λ is. tt, phases-walk B i d (p ∷ ps) l b h v)
+    → is_some (get_or (p ∷ ps) i d).kind.hardware ≡ is_hardware (p ∷ ps) → Bearing B i (get_or (p ∷ ps) i d) → Walks B i Before (script (p ∷ ps)) (Up (end_of (get_or (p ∷ ps) i d)))
+script-walks B d p ps i l b h alike v = (tt, λ is. tt, phases-walk B i d (p ∷ ps) l b h alike v)
 
 -- where nothing more is asked
-pub script-leads : (d p : SlavePlan) (ps : List SlavePlan) (i : ℕ) → i < length (p ∷ ps) → length (p ∷ ps) ≤ 64 → IsStartable (get_or (p ∷ ps) i d) → Leads i Before (script (p ∷ ps)) (Up (end_of (get_or (p ∷ ps) i d)))
-script-leads d p ps i l b h =
+pub script-leads : (d p : SlavePlan) (ps : List SlavePlan) (i : ℕ) → i < length (p ∷ ps) → length (p ∷ ps) ≤ 64 → IsStartable (get_or (p ∷ ps) i d) → is_some (get_or (p ∷ ps) i d).kind.hardware ≡ is_hardware (p ∷ ps)
+    → Leads i Before (script (p ∷ ps)) (Up (end_of (get_or (p ∷ ps) i d)))
+script-leads d p ps i l b h alike =
     walks-lead (λ c a. Unit {0}) i Before (Up (end_of (get_or (p ∷ ps) i d))) (script (p ∷ ps))
-    (script-walks (λ c a. Unit {0}) d p ps i l b h (record { easy = λ c a e. tt; clean = λ c e. tt; to_preop = λ r. tt; sends = λ x e. any-sent 0 x _ _; to_safeop = tt; to_op = tt }))
+    (script-walks (λ c a. Unit {0}) d p ps i l b h alike
+    (record { easy = λ c a e. tt; clean = λ c e. tt; to_preop = λ r q. (tt, tt); sends = λ x e. any-sent (is_some (get_or (p ∷ ps) i d).kind.hardware) 0 x _ _; to_safeop = (tt, tt); to_op = (tt, tt) }))
   where
-    any-sent : (counter : ℕ) (x : Mailbox) (c : Config) (rs : List SdoRequest) → AllSent (λ c a. Unit {0}) i counter x c rs
-    any-sent counter x c [] = tt
-    any-sent counter x c (r ∷ rs) = (tt, any-sent (counter + 1) x (answered c r) rs)
+    any-sent : (hardware : Bool) (counter : ℕ) (x : Mailbox) (c : Config) (rs : List SdoRequest) → AllSent (λ c a. Unit {0}) hardware i counter x c rs
+    any-sent hardware counter x c [] = tt
+    any-sent hardware counter x c (r ∷ rs) = (tt, tt, any-sent hardware (counter + 1) x (answered c r) rs)
 
 -- ---- every action goes by the names of its slave's registers
 
@@ -452,13 +501,14 @@ module _ (i : ℕ) (d : SlavePlan) (ps : List SlavePlan) (numbered : AreNumbered
   raised-named : (state : State) (t : ℕ) (p : SlavePlan) → AreNamed own i (raised state t p)
   raised-named state t p = (tt, (tt, tt))
 
-  exchanged-named : (t before : ℕ) (b : Mailbox) (rs : List SdoRequest) → AreNamed own i (exchanged t b before rs)
-  exchanged-named t before b [] = tt
-  exchanged-named t before b (r ∷ rs) = (tt, (tt, exchanged-named t (before + 1) b rs))
+  exchanged-named : (hardware : Bool) (t before : ℕ) (b : Mailbox) (rs : List SdoRequest) → AreNamed own i (exchanged hardware t b before rs)
+  exchanged-named hardware t before b [] = tt
+  exchanged-named true t before b (r ∷ rs) = (tt, (tt, exchanged-named true t (before + 1) b rs))
+  exchanged-named false t before b (r ∷ rs) = (tt, (tt, exchanged-named false t (before + 1) b rs))
 
   talked-named : (t : ℕ) (p : SlavePlan) (o : Option Mailbox) → AreNamed own i (talked t p o)
   talked-named t p None = tt
-  talked-named t p (Some b) = exchanged-named t 0 b (requests p)
+  talked-named t p (Some b) = exchanged-named (is_some p.kind.hardware) t 0 b (requests p)
 
   mapped-named : (t : ℕ) → AreNamed own i (mapped t (get_or ps t d))
   mapped-named t =

@@ -1,5 +1,5 @@
 -- A start-up is at its beginning until its first frame is sent, and never again.
-use Rattle.ec_bringup.proofs.Words.{ℕ, ◌+◌, ◌≡◌, ◌==◌, ◌&&◌, ◌≢◌, Bool, true, false, refl, ◌∙◌, ap, inl, inr, arith, if◌then◌else◌, List, [], ◌∷◌, length, get_or, nat_lt, cases_eq, ne_eqb, Datagram, SlavePlan, TooSlow, Count, Action, CountSlaves, Phase, Idle, Sent, Ready, Failed, Verdict, Next, Again, Fails, script, verdict, StartState, action_of, type_of, begun, judged, taken, given_up_by, max_polls, is_idle, is_beginning, BeginningLaw, Fed, step_of, is_fed, feed_or, slice_get}
+use Rattle.ec_bringup.proofs.Words.{ℕ, ◌+◌, ◌≡◌, ◌==◌, ◌&&◌, ◌≢◌, Bool, true, false, refl, ◌∙◌, ap, inl, inr, arith, if◌then◌else◌, List, [], ◌∷◌, length, get_or, nat_lt, cases_eq, ne_eqb, Datagram, SlavePlan, TooSlow, Count, Action, CountSlaves, Phase, Idle, Sent, Ready, Failed, Verdict, Next, Again, Fails, script, verdict, StartState, action_of, type_of, begun, judged, taken, given_up_by, max_polls, is_idle, is_beginning, BeginningLaw, Fed, step_of, is_fed, feed_or, slice_get, Aside, Some}
 
 begins : (s : StartState) (number : ℕ) → is_beginning (begun s.plan s.feeds number) ≡ true
 unfolding begun
@@ -16,6 +16,7 @@ tried s false ne = ne_eqb s.place 0 ne
 
 later : (s : StartState) → s.place ≢ 0 → (x : Verdict) → is_beginning (judged s x) ≡ false
 later s ne Again = tried s (s.polls + 1 == max_polls) ne
+later s ne (Aside heard) = tried (record s { heard = Some heard }) (s.polls + 1 == max_polls) ne
 later s ne (Fails failure) = refl
 later s ne Fed = ne_eqb s.place 0 ne
 later s ne _ = further s (if nat_lt (s.place + 1) (length (script s.plan)) then Idle else Ready) s.place

@@ -1,5 +1,5 @@
 -- Bringing up a start-up: its turns, its end, and that it comes up where nothing disturbs it.
-use Rattle.ec_bringup.proofs.Words.{ℕ, zero, suc, ◌+◌, ◌<◌, ◌≤◌, ◌≡◌, ◌≢◌, ◌==◌, Bool, true, false, refl, sym, ◌∙◌, ap, subst, inl, inr, arith, if◌then◌else◌, List, length, map, nat_lt, both_ways, cases_eq, eq-eqb, ne_eqb, if_true, if_false, Datagram, Payload, IsFrame, with_datagrams, bare_payload, SlaveState, served, passes_ring, HasPassedRing, SlavePlan, Action, Phase, Idle, Sent, Ready, Failed, TooSlow, Lost, datagram_of, frame_of, script, StartState, action_of, asked, asked_by, next_frame, next_frame_by, begun, sending, taken, judged, max_polls, second, is_ended, is_sent, last_number, type_of, IsStartTaken, NextFrame, Send, Waiting, Ended, Verdict, Again, Fails, Fed, Feed, frames_of, taken_plan, Rising, frame_at, all_passed, all_met, turned, turns, ArePlansWith, AreDevices, IsUpAndWorks, IsOnItsWay, rising, IsBroughtTo, BringUpRests as Rests, RunsOut, BringUpTurns as Turns}
+use Rattle.ec_bringup.proofs.Words.{ℕ, zero, suc, ◌+◌, ◌<◌, ◌≤◌, ◌≡◌, ◌≢◌, ◌==◌, Bool, true, false, refl, sym, ◌∙◌, ap, subst, inl, inr, arith, if◌then◌else◌, List, length, map, nat_lt, both_ways, cases_eq, eq-eqb, ne_eqb, if_true, if_false, Datagram, Payload, IsFrame, with_datagrams, bare_payload, SlaveState, served, passes_ring, HasPassedRing, SlavePlan, Action, Phase, Idle, Sent, Ready, Failed, TooSlow, Lost, datagram_of, frame_of, script, StartState, action_of, asked, asked_by, next_frame, next_frame_by, begun, sending, taken, judged, max_polls, second, is_ended, is_sent, last_number, type_of, IsStartTaken, NextFrame, Send, Waiting, Ended, Verdict, Again, Fails, Fed, Feed, Aside, Some, polled, AllAgree, frames_up, taken_same, Rising, frame_at, all_passed, all_met, turned, turns, ArePlansWith, AreDevices, IsUpAndWorks, IsOnItsWay, rising, IsBroughtTo, BringUpRests as Rests, RunsOut, BringUpTurns as Turns}
 use Rattle.ec_bringup.proofs.AllSlaves.RoundLaw.{round}
 use Rattle.ec_bringup.proofs.StartUp.ComesUpLaw.{comes-up}
 use Rattle.ec_bringup.proofs.OneFrame.FrameLaw.{gives_up, Says, take-says}
@@ -64,7 +64,7 @@ has-ended _ _ (RunsOut r h n) = refl
 has-ended _ _ (Turns r e h n rest) = has-ended (turned r) e rest
 
 pub keeps-plan : (r e : Rising) → IsBroughtTo r e → e.start.plan ≡ r.start.plan
-keeps-plan _ _ (Turns r e h n rest) = keeps-plan (turned r) e rest ∙ taken_plan (sending r.start) (all_passed r.slaves (frame_at r))
+keeps-plan _ _ (Turns r e h n rest) = keeps-plan (turned r) e rest ∙ (taken_same (sending r.start) (all_passed r.slaves (frame_at r))).plan
 keeps-plan _ _ _ = refl
 
 -- a start-up that sends nothing, though no frame is outstanding, ends there
@@ -86,12 +86,16 @@ lost_phase _ = false
 abbrev Follows : StartState → StartState → Type 0
 Follows s t = (t.next ≡ s.next) × (is_sent t.phase ≡ false) × (lost_phase t.phase ≡ false)
 
-judged-follows : (a : Action) (d : Datagram) (s : StartState) (v : Verdict) → Says a d v → Follows s (judged s v)
-judged-follows a d s Again h = by (s.polls + 1 == max_polls)
+polled-follows : (s : StartState) → Follows s (polled s)
+polled-follows s = by (s.polls + 1 == max_polls)
   where
     by : (b : Bool) → Follows s (if b then record s { phase = Failed (TooSlow s.place) } else record s { fed = 0; polls = s.polls + 1; phase = Idle })
     by true = (refl, refl, refl)
     by false = (refl, refl, refl)
+
+judged-follows : (a : Action) (d : Datagram) (s : StartState) (v : Verdict) → Says a d v → Follows s (judged s v)
+judged-follows a d s Again h = polled-follows s
+judged-follows a d s (Aside heard) h = polled-follows (record s { heard = Some heard })
 judged-follows a d s (Fails error) h = (refl, refl, h)
 judged-follows a d s Fed h = (refl, refl, refl)
 judged-follows a d s _ h =
@@ -161,10 +165,10 @@ follow _ _ from (suc n) few ready way (Turns r e h l rest) =
     (λ k b. let w = way (suc k) (omega (arith, b)) in let same : from + suc k ≡ from + 1 + k = omega arith in subst (λ (x : ℕ). IsOnItsWay x (turns (suc k) r)) same w)
     rest
 
-pub up : (ps : List SlavePlan) (fs : List Feed) (from : ℕ) (s t : StartState) (ss xs : List SlaveState) → IsBroughtTo (rising s ss) (rising t xs) → ArePlansWith ps fs → s ≡ begun ps fs from → AreDevices ps ss
-    → from + frames_of fs (script ps) ≤ last_number → IsUpAndWorks ps (from + frames_of fs (script ps)) (rising t xs)
-up ps fs from s t ss xs brought plans begins devices few =
-    let c = comes-up ps fs plans from ss devices in
+pub up : (ps : List SlavePlan) (fs : List Feed) (from : ℕ) (s t : StartState) (ss xs : List SlaveState) → IsBroughtTo (rising s ss) (rising t xs) → ArePlansWith ps fs → AllAgree ps → s ≡ begun ps fs from → AreDevices ps ss
+    → from + frames_up ps fs ss ≤ last_number → IsUpAndWorks ps (from + frames_up ps fs ss) (rising t xs)
+up ps fs from s t ss xs brought plans agree begins devices few =
+    let c = comes-up ps fs plans agree from ss devices in
     let b : IsBroughtTo (rising (begun ps fs from) ss) (rising t xs) = subst (λ (x : StartState). IsBroughtTo (rising x ss) (rising t xs)) begins brought in
-    let e : rising t xs ≡ turns (frames_of fs (script ps)) (rising (begun ps fs from) ss) = follow (rising (begun ps fs from) ss) (rising t xs) from (frames_of fs (script ps)) few c.0.ready c.1 b in
-    subst (IsUpAndWorks ps (from + frames_of fs (script ps))) (sym e) c.0
+    let e : rising t xs ≡ turns (frames_up ps fs ss) (rising (begun ps fs from) ss) = follow (rising (begun ps fs from) ss) (rising t xs) from (frames_up ps fs ss) few c.0.ready c.1 b in
+    subst (IsUpAndWorks ps (from + frames_up ps fs ss)) (sym e) c.0

@@ -1,11 +1,12 @@
 -- An undisturbed start-up ends Ready.
-use Rattle.ec_bringup.proofs.Words.{ℕ, zero, suc, ◌+◌, ◌^◌, ◌<◌, ◌≤◌, ◌≡◌, false, refl, sym, ◌∙◌, subst, inl, arith, List, [], ◌∷◌, length, Device, SlaveState, SlavePlan, CountSlaves, phases, script, begun, type_of, Before, Up, end_of, Stands, IsIdentity, AreDevices, ArePlans, Rising, unplanned, plan_at, slave_of, rising, TurnsTo, AppliedStays as Stays, Turns, AppliedUpLaw, IsOnItsWay, ComesUpLaw, CompiledUpLaw, IsUpAndWorks, IsBroughtUp, StandsUpLaw, both_ways, Works, SlaveHealth, Working, Faulted, WasReset, plan_of, Feed, feeds_of, frames_of, ArePlansWith, Hardware, Option, Some, None, Bool, true, is_some, is_hardware, has_firmware, Mailbox, prepared, asked_all}
+use Rattle.ec_bringup.proofs.Words.{ℕ, zero, suc, ◌+◌, ◌^◌, ◌<◌, ◌≤◌, ◌≡◌, false, refl, sym, ◌∙◌, subst, inl, arith, List, [], ◌∷◌, length, Device, SlaveState, SlavePlan, CountSlaves, phases, begun, type_of, Before, Up, end_of, Stands, IsIdentity, AreDevices, ArePlans, Rising, unplanned, plan_at, slave_of, rising, TurnsTo, AppliedStays as Stays, Turns, AppliedUpLaw, IsOnItsWay, ComesUpLaw, CompiledUpLaw, IsUpAndWorks, IsBroughtUp, StandsUpLaw, both_ways, Works, SlaveHealth, Working, Faulted, WasReset, plan_of, Feed, feeds_of, frames_up, ArePlansWith, AllAgree, Option, Mailbox, prepared, asked_all, None}
 use Rattle.ec_bringup.proofs.Script.Walks.{script-walks, script-named, asked-frame}
 use Rattle.ec_bringup.proofs.Mailbox.SendRequest.{datagram-good}
 use Rattle.ec_bringup.proofs.OneFrame.Commands.{word_of}
 use Rattle.ec_bringup.proofs.AllSlaves.FramePasses.{Each}
 use Rattle.ec_bringup.proofs.AllSlaves.Applications.{Stood, turns-to}
-use Rattle.ec_bringup.proofs.Script.IsPath.{IsPath, IsNow, rises, phases-free, each-none}
+use Rattle.ec_bringup.proofs.Script.Polls.{al_asked, slow-any}
+use Rattle.ec_bringup.proofs.Script.IsPath.{IsPath, IsNow, rises, phases-chained, each-none}
 use Rattle.ec_bringup.proofs.AllSlaves.NextAction.{Bears}
 use Rattle.ec_bringup.proofs.Script.ChecksGranted.{bears-all, no-outputs}
 use Rattle.ec_bringup.proofs.Script.CompiledPlansLaw.{are-plans}
@@ -38,18 +39,13 @@ big-word t (suc (suc which)) h = h.revision
 
 -- ---- the beginning
 
--- of a type that says nothing of real devices a slave has firmware
-plain-firm : (o : Option Hardware) (b : Bool) → is_some o ≡ b → b ≡ false → has_firmware o ≡ true
-plain-firm None b e f = refl
-plain-firm (Some h) b e f = absurd (both_ways b f (sym e))
-
 is-path : (p : SlavePlan) (ps : List SlavePlan) (fs : List Feed) → length (p ∷ ps) ≤ 64 → ArePlansWith (p ∷ ps) fs → IsPath (p ∷ ps) fs (λ i. end_of (plan_at (p ∷ ps) i))
 is-path p ps fs few h = record {
   some = omega arith;
   few = few;
   types = λ t l. types-of (p ∷ ps) t l;
   big = λ t which l. subst (λ (x : Device). word_of x which < 2 ^ 32) (sym (types-of (p ∷ ps) t l)) (big-word (plan_at (p ∷ ps) t).kind.device which (h.plans.complete t l).identity);
-  plain = λ i l f. plain-firm (plan_at (p ∷ ps) i).kind.hardware (is_hardware (p ∷ ps)) (h.plans.alike i l) f;
+  slow = slow-any (p ∷ ps) (λ i l. (h.plans.complete i l).slow);
   alike = h.plans.alike;
   feeds = h.feeds;
   predicted = h.predicted;
@@ -61,38 +57,41 @@ is-path p ps fs few h = record {
     end-silent : (q : SlavePlan) (o : Option Mailbox) → (asked_all (prepared q) q o).talk ≡ None
     end-silent q o = (asked-frame q o).talk
 
-is-now : (p : SlavePlan) (ps : List SlavePlan) (fs : List Feed) (from : ℕ) (ss : List SlaveState) → ArePlansWith (p ∷ ps) fs → AreDevices (p ∷ ps) ss
-    → IsNow (p ∷ ps) fs (λ i. (plan_at (p ∷ ps) i).kind) (λ i. end_of (plan_at (p ∷ ps) i)) (λ i. Before) CountSlaves (phases (p ∷ ps)) (rising (begun (p ∷ ps) fs from) ss)
+is-now : (p : SlavePlan) (ps : List SlavePlan) (fs : List Feed) (from : ℕ) (ss : List SlaveState) → ArePlansWith (p ∷ ps) fs → AllAgree (p ∷ ps) → AreDevices (p ∷ ps) ss
+    → IsNow (p ∷ ps) fs ss (λ i. (plan_at (p ∷ ps) i).kind) (λ i. end_of (plan_at (p ∷ ps) i)) (λ i. Before) 0 CountSlaves CountSlaves (phases (p ∷ ps)) (rising (begun (p ∷ ps) fs from) ss)
 unfolding begun
-is-now p ps fs from ss h d = record {
+is-now p ps fs from ss h agree d = record {
   plan_is = refl;
   feeds_are = refl;
   fed_few = omega arith;
   fed_none = λ e. refl;
+  polls_few = omega arith;
+  counted = refl;
   idle = refl;
   ahead = refl;
   count = d.count;
   told = tt;
   inside = tt;
   sendable = tt;
-  chained = phases-free (p ∷ ps) (λ i l. record { reach = (h.plans.complete i l).reach; numbered = (h.plans.planned i l).numbered }) CountSlaves;
-  walks = λ i l. script-walks (Bears (plan_at (p ∷ ps) i).kind) unplanned p ps i l d.few (h.plans.planned i l) (bears-all i (plan_at (p ∷ ps) i) (h.plans.planned i l) (h.plans.complete i l));
+  chained = phases-chained (p ∷ ps) (λ i l. record { reach = (h.plans.complete i l).reach; numbered = (h.plans.planned i l).numbered; alike = h.plans.alike i l });
+  walks = λ i l. script-walks (Bears (plan_at (p ∷ ps) i).kind) unplanned p ps i l d.few (h.plans.planned i l) (h.plans.alike i l)
+      (bears-all i (plan_at (p ∷ ps) i) (h.plans.planned i l) (h.plans.complete i l) (agree.each i l));
   named = λ i l. script-named unplanned p ps i (h.plans.planned i l).numbered (h.plans.planned i l).has_fmmus (λ e. (h.plans.planned i l).faceless (h.plans.alike i l ∙ e));
   fed = each-none (p ∷ ps) fs 0 ss;
-  each = each-from (λ i s. Stood (plan_at (p ∷ ps) i).kind i Before CountSlaves s) 0 ss
+  each = each-from (λ i s. Stood (plan_at (p ∷ ps) i).kind i Before (al_asked ss i) 0 0 0 CountSlaves s) 0 ss
       (λ k l.
       let b : k < length (p ∷ ps) = omega (arith, l, d.count) in
       let z : k ≡ 0 + k = omega arith in
-      subst (λ (x : ℕ). Stood (plan_at (p ∷ ps) x).kind x Before CountSlaves (slave_of ss k)) z
-      (record { stands = record { slave = (d.each k b).slave; at = inl tt }; spelled = (d.each k b).spelled; sure = tt; dry = tt }));
+      subst (λ (x : ℕ). Stood (plan_at (p ∷ ps) x).kind x Before (al_asked ss x) 0 0 0 CountSlaves (slave_of ss k)) z
+      (record { stands = record { slave = (d.each k b).slave; at = inl tt }; spelled = (d.each k b).spelled; sure = refl; late = λ low. absurd low; dry = tt }));
 }
 
-brought-up : (p : SlavePlan) (ps : List SlavePlan) (fs : List Feed) (from : ℕ) (ss : List SlaveState) → ArePlansWith (p ∷ ps) fs → AreDevices (p ∷ ps) ss → (k : ℕ) (e : Rising)
+brought-up : (p : SlavePlan) (ps : List SlavePlan) (fs : List Feed) (from : ℕ) (ss : List SlaveState) → ArePlansWith (p ∷ ps) fs → AllAgree (p ∷ ps) → AreDevices (p ∷ ps) ss → (k : ℕ) (e : Rising)
     → TurnsTo k (rising (begun (p ∷ ps) fs from) ss) e
-    → (k < frames_of fs (script (p ∷ ps)) → IsOnItsWay (from + k) e) × (k ≡ frames_of fs (script (p ∷ ps)) → IsBroughtUp (p ∷ ps) (from + k) e)
+    → (k < frames_up (p ∷ ps) fs ss → IsOnItsWay (from + k) e) × (k ≡ frames_up (p ∷ ps) fs ss → IsBroughtUp (p ∷ ps) (from + k) e)
 unfolding begun
-brought-up p ps fs from ss h d k e turns =
-    let both = rises (p ∷ ps) fs (λ i. end_of (plan_at (p ∷ ps) i)) (is-path p ps fs d.few h) (λ i. Before) CountSlaves (phases (p ∷ ps)) (rising (begun (p ∷ ps) fs from) ss) (is-now p ps fs from ss h d) k e turns in
+brought-up p ps fs from ss h agree d k e turns =
+    let both = rises (p ∷ ps) fs ss (λ i. end_of (plan_at (p ∷ ps) i)) (is-path p ps fs d.few h) d.count (λ i. Before) 0 CountSlaves CountSlaves (phases (p ∷ ps)) (rising (begun (p ∷ ps) fs from) ss) (is-now p ps fs from ss h agree d) k e turns in
     let z : k + 0 ≡ k = omega arith in (
       λ l. both.0 (omega (arith, l, z)),
       λ q.
@@ -110,7 +109,7 @@ brought-up p ps fs from ss h d k e turns =
 
 -- no slaves: one frame
 none-up : (fs : List Feed) (from : ℕ) (ss : List SlaveState) → AreDevices [] ss → (k : ℕ) (e : Rising) → TurnsTo k (rising (begun [] fs from) ss) e
-    → (k < frames_of fs (script []) → IsOnItsWay (from + k) e) × (k ≡ frames_of fs (script []) → IsBroughtUp [] (from + k) e)
+    → (k < frames_up [] fs ss → IsOnItsWay (from + k) e) × (k ≡ frames_up [] fs ss → IsBroughtUp [] (from + k) e)
 unfolding begun
 none-up fs from [] d zero e (Stays _) = (λ l. record { idle = refl; good = datagram-good CountSlaves from tt; next_number = let z : from ≡ from + 0 = omega arith in z }, λ q. absurd (omega (arith, q)))
 none-up fs from [] d (suc zero) e (Turns _ _ _ [] app (Stays _)) = (λ l. absurd (omega (arith, l)), λ q. record { ready = refl; numbers = refl; count = refl; slaves = λ i l. absurd (omega (arith, l)) })
@@ -119,8 +118,8 @@ none-up fs from [] d (suc (suc k)) e turns = (λ l. absurd (omega (arith, l)), �
 none-up fs from (s ∷ ss) d k e turns = absurd (let c = d.count in omega (arith, c))
 
 pub stands-up : StandsUpLaw
-stands-up [] fs h from ss d k e turns = none-up fs from ss d k e turns
-stands-up (p ∷ ps) fs h from ss d k e turns = brought-up p ps fs from ss h d k e turns
+stands-up [] fs h agree from ss d k e turns = none-up fs from ss d k e turns
+stands-up (p ∷ ps) fs h agree from ss d k e turns = brought-up p ps fs from ss h agree d k e turns
 
 -- ---- an undisturbed start-up ends Ready, in the words of a world
 
@@ -138,13 +137,13 @@ works-by ps h number r k = record {
 }
 
 pub applied_up : AppliedUpLaw
-applied_up ps fs h from ss d k e turns = let b = stands-up ps fs h from ss d k e turns in (b.0, λ q. works-by ps h.plans (from + k) e (b.1 q))
+applied_up ps fs h agree from ss d k e turns = let b = stands-up ps fs h agree from ss d k e turns in (b.0, λ q. works-by ps h.plans (from + k) e (b.1 q))
 
 pub comes-up : ComesUpLaw
-comes-up ps fs h from ss d = (
-  (applied_up ps fs h from ss d (frames_of fs (script ps)) _ (turns-to (frames_of fs (script ps)) (rising (begun ps fs from) ss))).1 refl,
-  λ k l. (applied_up ps fs h from ss d k _ (turns-to k (rising (begun ps fs from) ss))).0 l,
+comes-up ps fs h agree from ss d = (
+  (applied_up ps fs h agree from ss d (frames_up ps fs ss) _ (turns-to (frames_up ps fs ss) (rising (begun ps fs from) ss))).1 refl,
+  λ k l. (applied_up ps fs h agree from ss d k _ (turns-to k (rising (begun ps fs from) ss))).0 l,
 )
 
 pub compiled-up : CompiledUpLaw
-compiled-up t sound free from ss d = comes-up (plan_of t).slaves (feeds_of (plan_of t)) (are-plans t sound free) from ss d
+compiled-up t sound free agree from ss d = comes-up (plan_of t).slaves (feeds_of (plan_of t)) (are-plans t sound free) agree from ss d

@@ -1,5 +1,5 @@
 -- A world that starts up goes on starting up: by the laws of one slave.
-use Rattle.ec_bringup.proofs.Words.{ℕ, ◌+◌, ◌<◌, ◌≤◌, ◌≡◌, ◌≢◌, ◌==◌, Bool, false, refl, sym, ◌∙◌, subst, inl, inr, arith, List, length, drop, set, length-set, get_or-set_same, get_or-set_other, cases_Bool, cases_lt, cases_eq, lt-ltb, le-ltb, drop_more, drop_all, if_true, if_false, SlaveKind, Datagram, IsDatagram, SlaveState, slave_met, datagram_met, meets-keeps, Action, CountSlaves, script, TooSlow, Verdict, Next, Word, Again, Fails, Device, verdict, StartState, action_of, type_of, advanced, judged, taken, with_identity, Config, Stage, Up, Fits, after, FrameLaw, Leads, AreAhead, AllMet, IsUnderWay, Instant, Between, UnderWay, Adrift, Over, IsReady, Starts, LaterLaw, TakeLaw, SlaveLaw, IsOfKind, Stands, Arrives, MayRepeat, MayEnd, Met, with_passed, with_start, with_slave, Carried, Starting, no_slave, slave_at, trouble_at, kind_at, AreSlaves, Before, true, Some, ap, if◌then◌else◌, slice_get, step_of, is_fed, FeedPart, Feed, Fed, Counter, AreFeedsOf, IsFeedOf, IsFeeding, Feeding, FeedLaw, FedLaw, IsLeft, with_outputs_written, with_memory, planned, IsNamed, AreNamed, IsGone, awaiting, manager_at, SyncManager, switched_on, SlavePlan}
+use Rattle.ec_bringup.proofs.Words.{ℕ, ◌+◌, ◌<◌, ◌≤◌, ◌≡◌, ◌≢◌, ◌==◌, Bool, false, refl, sym, ◌∙◌, subst, inl, inr, arith, List, length, drop, set, length-set, get_or-set_same, get_or-set_other, cases_Bool, cases_lt, cases_eq, lt-ltb, le-ltb, drop_more, drop_all, if_true, if_false, SlaveKind, Datagram, IsDatagram, SlaveState, slave_met, datagram_met, meets-keeps, Action, CountSlaves, script, TooSlow, Verdict, Next, Word, Again, Aside, Fails, Heard, Option, polled, Failed, Idle, Device, verdict, StartState, action_of, type_of, advanced, judged, taken, with_identity, Config, Stage, Up, Fits, after, FrameLaw, Leads, AreAhead, AllMet, IsUnderWay, Instant, Between, UnderWay, Adrift, Over, IsReady, Starts, LaterLaw, TakeLaw, SlaveLaw, IsOfKind, Stands, Arrives, MayRepeat, MayEnd, Met, with_passed, with_start, with_slave, Carried, Starting, no_slave, slave_at, trouble_at, kind_at, AreSlaves, Before, true, Some, ap, if◌then◌else◌, slice_get, step_of, is_fed, FeedPart, Feed, Fed, Counter, AreFeedsOf, IsFeedOf, IsFeeding, Feeding, FeedLaw, FedLaw, IsLeft, with_outputs_written, with_memory, planned, IsNamed, AreNamed, IsGone, awaiting, manager_at, SyncManager, switched_on, SlavePlan}
 use Rattle.ec_bringup.proofs.OneSlave.Alike.{Alike, set-front, stands-alike}
 use Rattle.ec_bringup.proofs.Script.FedSteps.{HasAllSet, Acts, Own, Part, acts, all-set, fed-ahead, own-step}
 
@@ -96,8 +96,7 @@ written-alike s four = record {
   memory = λ a l. refl;
   managers = set-front s.managers 2 (awaiting (manager_at s.managers 2) false) (omega (arith, four)) (record { settings = refl; locked = refl; mail = refl }) (λ e. refl);
   idle = λ e. e;
-  outs = refl;
-  ins = refl;
+  objects = record { kind = refl; identity = refl; outs = refl; ins = refl; values = refl };
 }
 
 pub left-stands : (kind : SlaveKind) (i : ℕ) (st : Stage) (trouble : Bool) (s t : SlaveState) → IsLeft s t → (IsGone st s → t ≡ s) → Stands kind i st trouble s → Stands kind i st trouble t
@@ -199,27 +198,30 @@ done-starts ends w seen h fed u e m =
       ];
     }
 
-again-starts : (ends : ℕ → Config) (w : Starting) → AreSlaves w → AreFeedsOf w.start.plan w.start.feeds → (u : IsUnderWay ends w) → u.carried.passed ≡ length w.start.plan
-    → MayRepeat (step_of w.start) u.carried.datagram → Starts ends (with_start w (judged w.start Again))
-again-starts ends w h fed u e m = elim (cases_Bool (w.start.polls + 1 == 1000)) [
-  | inl y ↦ subst (λ (s : StartState). Starts ends (with_start w s)) (sym (if_true _ _ _ y)) (record {
-    slaves = record { slaves = h.slaves; troubles = h.troubles; few = h.few; each = h.each };
-    feeds = fed;
-    instant = Over (record { failure = TooSlow w.start.place; failed = refl });
-  })
-  | inr n ↦ subst (λ (s : StartState). Starts ends (with_start w s)) (sym (if_false _ _ _ n)) (record {
-    slaves = record { slaves = h.slaves; troubles = h.troubles; few = h.few; each = h.each };
-    feeds = fed;
-    instant = Between (record {
-      idle = refl;
-      empty = refl;
-      inside = u.inside;
-      stages = u.stages;
-      ahead = u.ahead;
-      stand = record { each = λ i b. (u.met.passed i (omega (arith, e, b))).repeated m };
-    });
-  })
-]
+-- the wait goes on, whatever was heard
+again-starts : (ends : ℕ → Config) (w : Starting) (heard : Option Heard) → AreSlaves w → AreFeedsOf w.start.plan w.start.feeds → (u : IsUnderWay ends w) → u.carried.passed ≡ length w.start.plan
+    → MayRepeat (step_of w.start) u.carried.datagram → Starts ends (with_start w (polled (record w.start { heard = heard })))
+again-starts ends w heard h fed u e m =
+    let s : StartState = record w.start { heard = heard } in
+    elim (cases_Bool (w.start.polls + 1 == 1000)) [
+      | inl y ↦ subst (λ (x : StartState). Starts ends (with_start w x)) (sym (if_true (w.start.polls + 1 == 1000) (record s { phase = Failed (TooSlow w.start.place) }) (record s { fed = 0; polls = w.start.polls + 1; phase = Idle }) y)) (record {
+        slaves = record { slaves = h.slaves; troubles = h.troubles; few = h.few; each = h.each };
+        feeds = fed;
+        instant = Over (record { failure = TooSlow w.start.place; failed = refl });
+      })
+      | inr n ↦ subst (λ (x : StartState). Starts ends (with_start w x)) (sym (if_false (w.start.polls + 1 == 1000) (record s { phase = Failed (TooSlow w.start.place) }) (record s { fed = 0; polls = w.start.polls + 1; phase = Idle }) n)) (record {
+        slaves = record { slaves = h.slaves; troubles = h.troubles; few = h.few; each = h.each };
+        feeds = fed;
+        instant = Between (record {
+          idle = refl;
+          empty = refl;
+          inside = u.inside;
+          stages = u.stages;
+          ahead = u.ahead;
+          stand = record { each = λ i b. (u.met.passed i (omega (arith, e, b))).repeated m };
+        });
+      })
+    ]
 
 -- a start-up after the answer to a frame of an action
 abbrev judged_at : StartState → Action → Datagram → StartState
@@ -234,7 +236,8 @@ take-starts law parts ends w h fed u e =
     by : (v : Verdict) → verdict (length w.start.plan) w.start.place w.start.seen (type_of w.start.plan) (step_of w.start) u.carried.datagram ≡ v → Starts ends (with_start w (judged w.start v))
     by Next q = done-starts ends w w.start.seen h fed u e ((law (length w.start.plan) w.start.place w.start.seen w.start.plan (step_of w.start) u.carried.datagram).0 q)
     by (Word value) q = done-starts ends w (with_identity w.start (action_of w.start) value) h fed u e ((law (length w.start.plan) w.start.place w.start.seen w.start.plan (step_of w.start) u.carried.datagram).1 value q)
-    by Again q = again-starts ends w h fed u e ((law (length w.start.plan) w.start.place w.start.seen w.start.plan (step_of w.start) u.carried.datagram).2 q)
+    by Again q = again-starts ends w w.start.heard h fed u e ((law (length w.start.plan) w.start.place w.start.seen w.start.plan (step_of w.start) u.carried.datagram).2 q)
+    by (Aside heard) q = again-starts ends w (Some heard) h fed u e ((law (length w.start.plan) w.start.place w.start.seen w.start.plan (step_of w.start) u.carried.datagram).3 heard q)
     -- no step of a script feeds a part
     by Fed q = let p = parts (length w.start.plan) w.start.place w.start.seen w.start.plan (step_of w.start) u.carried.datagram q in absurd (own-step w.start.plan w.start.place p.0 p.1)
     by (Fails f) q = record {

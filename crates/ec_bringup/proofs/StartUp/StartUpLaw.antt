@@ -1,5 +1,5 @@
 -- Every run of a world that starts up: up to the step that makes it ready, and from then on without a cycle.
-use Rattle.ec_bringup.proofs.Words.{ℕ, ◌<◌, ◌≤◌, ◌≡◌, ◌==◌, Bool, true, false, Option, Some, None, refl, sym, ◌∙◌, ap, subst, inl, inr, arith, List, [], ◌∷◌, length, get_or, replicate, drop, cases_Bool, and_parts, eqb-true, length-replicate, if_true, if_false, SlaveKind, Datagram, IsDatagram, SlaveState, power_on, slave_met, datagram_met, passes as passes_all, SlavePlan, datagram_of, name_datagram, script, StartError, Lost, StartState, sending, action_of, taken, begun, Ready, Failed, Config, Talk, Stage, Before, Up, end_of, Leads, AreAhead, IsBetween, Instant, Between, UnderWay, Adrift, Over, IsReady, Starts, IsOfKind, IsConfigured, IsSilent, IsUpAt, IsFaultedAt, Talks, Stands, IsStartable, Carried, Starting, slave_at, trouble_at, kind_at, no_plan, AreSlaves, is_idle, is_beginning, with_passed, with_start, with_sent, with_begun, with_empty, with_lost, AreStartable, ends_of, Happens, Sends, Passes, Loses, Returns, Strays, Closes, Serves, Puts, Gets, Faults, Resets, Runs, Stops, Steps, Begins, HoldsAll, Works, HasFault, SlaveHealth, Working, Faulted, WasReset, StartUpLaw, IsNew, taken_plan, Idle, IsUnderWay, ◌⊎◌, IsOver, step_of, Action, Arrives, Sent, Feed, AreFeedsOf, IsFeedAt, IsFeeding, Feeding, opened, is_hardware, ◌++◌}
+use Rattle.ec_bringup.proofs.Words.{ℕ, ◌<◌, ◌≤◌, ◌≡◌, ◌==◌, Bool, true, false, Option, Some, None, refl, sym, ◌∙◌, ap, subst, inl, inr, arith, List, [], ◌∷◌, length, get_or, replicate, drop, cases_Bool, and_parts, eqb-true, length-replicate, if_true, if_false, SlaveKind, Datagram, IsDatagram, SlaveState, power_on, slave_met, datagram_met, passes as passes_all, SlavePlan, datagram_of, name_datagram, script, StartError, Lost, StartState, sending, action_of, taken, begun, Ready, Failed, Config, Talk, Stage, Before, Up, end_of, Leads, AreAhead, IsBetween, Instant, Between, UnderWay, Adrift, Over, IsReady, Starts, IsOfKind, IsConfigured, IsSilent, IsUpAt, IsFaultedAt, Talks, Stands, IsStartable, Carried, Starting, slave_at, trouble_at, kind_at, no_plan, AreSlaves, is_idle, is_beginning, with_passed, with_start, with_sent, with_begun, with_empty, with_lost, AreStartable, ends_of, Happens, Sends, Passes, Loses, Returns, Strays, Closes, Serves, Puts, Gets, Faults, Resets, Runs, Stops, Steps, Begins, HoldsAll, Works, HasFault, SlaveHealth, Working, Faulted, WasReset, StartUpLaw, IsNew, taken_same, Idle, IsUnderWay, ◌⊎◌, IsOver, step_of, Action, Arrives, Sent, Feed, AreFeedsOf, IsFeedAt, IsFeeding, Feeding, opened, is_hardware, ◌++◌}
 use Rattle.ec_bringup.proofs.AllSlaves.RoundLaw.{two-pass}
 use Rattle.ec_bringup.proofs.OneSlave.Reset.{reset_stands}
 use Rattle.ec_bringup.proofs.OneSlave.Fault.{fault-stands, put-stands, got-stands}
@@ -112,7 +112,7 @@ some-script (p ∷ ps) = omega arith
 script-ahead : (ps : List SlavePlan) → length ps ≤ 64 → AreStartable ps → AreAhead ps (script ps) (ends_of ps) (λ i. Before)
 script-ahead [] few h = record { each = λ i l. absurd (omega (arith, l)); named = λ i l. absurd (omega (arith, l)) }
 script-ahead (p ∷ ps) few h = record {
-  each = λ i l. script-leads no_plan p ps i l few (h.each i l);
+  each = λ i l. script-leads no_plan p ps i l few (h.each i l) (h.alike i l);
   named = λ i l. script-named no_plan p ps i (h.each i l).numbered (h.each i l).has_fmmus (λ e. (h.each i l).faceless (h.alike i l ∙ e));
 }
 
@@ -206,7 +206,7 @@ happens-starts ends w v sets (Resets k l e) h =
 
 all-held : (i : ℕ) (p : SlavePlan) (s : SlaveState) → IsStartable p → IsOfKind p.kind s → IsConfigured i (end_of p) s → IsSilent (end_of p) s → HoldsAll i p s
 all-held i p s planned slave configured silent =
-    let q = assignment-held p p.kind.mailbox s refl planned slave (record { outs = silent.assigned.outs; ins = silent.assigned.ins }) in
+    let q = assignment-held p p.kind.mailbox s refl planned slave (record { outs = silent.assigned.outs; ins = silent.assigned.ins; came = silent.assigned.came }) in
     record { configured = configured; silent = silent; no_read = configured.idle (asked-frame p p.kind.mailbox).idle; outs = q.0; ins = q.1 }
 
 up-works : (i : ℕ) (p : SlavePlan) (s : SlaveState) → IsStartable p → IsOfKind p.kind s → IsUpAt i (end_of p) s → Works i p s
@@ -248,7 +248,7 @@ ready-shown w planned h ready i l = elim h.instant [
 -- ---- whole runs
 
 pub taken-plan : (s : StartState) (d : Datagram) → (taken s d).plan ≡ s.plan
-taken-plan = taken_plan
+taken-plan s d = (taken_same s d).plan
 
 pub happens-plan : (w v : Starting) → Happens w v → v.start.plan ≡ w.start.plan
 happens-plan w v (Sends idle good e) = ap (λ (x : Starting). x.start.plan) e

@@ -144,7 +144,7 @@ same-room true xs ys e = e
 same-room false xs ys e = refl
 
 same : (s : SlaveState) → KeepsInside s s
-same s = record { kind = refl; identity = refl; room = refl; count = refl; locked = λ n. refl; awaited = λ n e. e; missing = λ a h. refl; state = refl; image = refl; outs = refl; ins = refl }
+same s = record { kind = refl; identity = refl; room = refl; count = refl; locked = λ n. refl; awaited = λ n e. e; missing = λ a h. refl; state = refl; image = refl; outs = refl; ins = refl; values = refl }
 
 accessed : (s : SlaveState) (reads writes : Bool) (w : Window) → KeepsInside s (physical_after s reads writes w)
 unfolding physical_after
@@ -160,6 +160,7 @@ accessed s reads writes w = record {
   image = either-image writes (written s.sii w.from w.bytes) s.sii s.sii.image (written-image s.sii w.from w.bytes) refl;
   outs = refl;
   ins = refl;
+  values = refl;
 }
 
 physically : (s : SlaveState) (d : Datagram) → KeepsInside s (meets_physically s d).slave
@@ -180,6 +181,7 @@ logically reading writing weight s d = record {
   image = refl;
   outs = refl;
   ins = refl;
+  values = refl;
 }
 
 exchanging : (b : Bool) (s : SlaveState) (d : Datagram) → (let m : Met = if b then meets_logically true true 2 s d else record { slave = s; datagram = d } in KeepsInside s m.slave)

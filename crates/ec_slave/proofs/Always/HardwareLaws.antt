@@ -19,14 +19,14 @@ use Rattle.ec_al.specs.declared.state.State.TheVariants.{Init, PreOp, SafeOp, Op
 use Rattle.ec_al.specs.declared.transition.Requested.{Requested}
 use Rattle.ec_al.proofs.CopyLemmas.{copies_shown}
 use Rattle.ec_sync.specs.Buffer.{Buffer, Got, app_written}
-use Rattle.ec_sync.specs.SyncManager.{SyncManager, after_get, app_put, awaiting, may_app_put, no_manager, zeros_published}
+use Rattle.ec_sync.specs.SyncManager.{SyncManager, after_get, app_put, awaiting, may_app_put, may_put_message, message_put, no_manager, zeros_published}
 use Rattle.ec_sync.specs.Governing.{manager_byte}
 use Rattle.ec_slave.specs.State.{SlaveState, manager_at, power_on}
 use Rattle.ec_slave.specs.Physical.{as_shown, byte_at, is_missing, numbered_byte, setting_for}
 use Rattle.ec_slave.specs.Application.{is_running, output_got, output_taken, with_manager}
 use Rattle.ec_slave.specs.Checking.{checks_of, control_word}
 use Rattle.ec_slave.specs.Faulting.{faulted, locked_empty}
-use Rattle.ec_slave.specs.Serving.{al_decided, has_outputs, is_awaiting, is_init, is_preop, is_safeop, managers_entered, outputs_awaited, read_finished, request_decided, served, unlocked_empty, with_al}
+use Rattle.ec_slave.specs.Serving.{al_decided, has_outputs, is_slow, is_awaiting, greets_by, managers_decided, replies_decided, is_init, is_preop, is_safeop, managers_entered, outputs_awaited, read_finished, request_decided, served, unlocked_empty, with_al}
 use Rattle.ec_slave.specs.Showing.{after_all}
 use Rattle.ec_slave.specs.Steps.{Happening, Meets, Serves, Faults, Puts, Gets, Resets, after_one}
 use Rattle.ec_slave.specs.HardwareLaws.{naming_manager, SlavesTakeNames, MissingFmmusReadZero, StatusIsCopied, OutputsComeFirst, AwaitsOutsideOp, SwitchedOnAwaitsNothing, OutputsAreAwaitedOutsideOp}
@@ -34,7 +34,7 @@ use Rattle.ec_slave.proofs.Memory.RegisterByte.{in_memory, register-read, settin
 use Rattle.ec_slave.proofs.Memory.RegisterLaws.{managers_aside, settings-alike, shows_itself, stored-setting}
 use Rattle.ec_slave.proofs.Memory.MissingFmmus.{not-missing}
 use Rattle.ec_slave.proofs.Memory.WindowBytes.{from-inside}
-use Rattle.ec_slave.proofs.FirmwareRuns.RestsQuietly.{decided-al, decided-if, decides, served-al, settings_kept}
+use Rattle.ec_slave.proofs.FirmwareRuns.RestsQuietly.{decided-al, decided-if, decides, emergency-alike, rested, served-al, settings_kept}
 use Rattle.ec_slave.proofs.FirmwareRuns.StatesAreEntered.{asked-op, granted, op-answer, served-state}
 use Rattle.ec_slave.proofs.FirmwareRuns.StepLaws.{messages_keep, three_parts, finished}
 use Rattle.ec_slave.proofs.Always.DatagramsKeepTheInside.{inside_kept}
@@ -162,6 +162,10 @@ unawaited : (o : Option Hardware) (s : SlaveState) → has_firmware o ≡ false 
 unawaited None s e = refl
 unawaited (Some h) s e = and_left _ _ e
 
+unslow : (o : Option Hardware) (s : SlaveState) → has_firmware o ≡ false → is_slow o s ≡ false
+unslow None s e = refl
+unslow (Some h) s e = and_left _ _ e
+
 by-copy : (o : Option Hardware) (s : SlaveState) → has_firmware o ≡ false → al_decided o s ≡ copied s.al (control_word s)
 by-copy None s e = absurd (false≢true (sym e))
 by-copy (Some h) s e = if_false _ _ _ e
@@ -169,9 +173,9 @@ by-copy (Some h) s e = if_false _ _ _ e
 pub status_copied : StatusIsCopied
 status_copied s wanted plain asks asked =
     let o : Option Hardware = s.kind.hardware in
-    let now : decides s ≡ true = and_from _ _ asks (ap not (unawaited o s plain)) in
+    let now : decides s ≡ true = and_from _ _ asks (and_from _ _ (ap not (unslow o s plain)) (ap not (unawaited o s plain))) in
     let is : (served s).al ≡ copied s.al (control_word s)
-    = served-al s ∙ (decided-al s ∙ (if_true (decides s) (al_decided o s) s.al now ∙ by-copy o s plain)) in (
+    = served-al s ∙ (decided-al s ∙ (if_true (decides s) (al_decided o s) (rested s).al now ∙ by-copy o s plain)) in (
       (shows_itself (served s)).status ∙ (ap status_word is ∙ copies_shown s.al (control_word s) wanted asked),
       ap (λ (a : Al). a.code) is ∙ ap (λ (r : Requested). (copied_to s.al r (acknowledges (control_word s))).code) asked,
     )
@@ -184,7 +188,7 @@ outputs_first s h hw fw other now =
     let w = op-answer s.al.state (requested_by (control_word s)) (checks_of s) other g.1 in
     let safe : is_safeop s.al.state ≡ true = ap is_safeop w.0 in
     let asks : (requested_number (control_word s) == state_number Op) ≡ true = ap (λ (n : ℕ). n == state_number Op) (asked-op (control_word s) w.1) in
-    let free : not (is_awaiting s.kind.hardware s) ≡ true = (and_parts s.al.requested _ g.0).1 in
+    let free : not (is_awaiting s.kind.hardware s) ≡ true = (and_parts (not (is_slow s.kind.hardware s)) _ (and_parts s.al.requested _ g.0).1).1 in
     false_from_ne_true (manager_at s.managers 2).awaited (λ t.
     let held : is_awaiting s.kind.hardware s ≡ true
     = ap (λ (o : Option Hardware). is_awaiting o s) hw ∙ and_from _ _ fw (and_from _ _ safe (and_from _ _ asks t)) in
@@ -231,14 +235,23 @@ awaited-quiet (Some h) outputs old new ms (inr e) q = λ n. by n (is_safeop new 
     by n true = set-quiet ms 2 n (awaiting (manager_at ms 2) (h.has_firmware && outputs)) (and_left _ _ e) (q n)
     by n false = q n
 
+-- an emergency changes nothing of it
+either-awaited : (b : Bool) (x m : SyncManager) → awaited_of x ≡ m.awaited → awaited_of (if b then x else m) ≡ m.awaited
+either-awaited true x m e = e
+either-awaited false x m e = refl
+
+put-awaited : (m : SyncManager) (bytes : List ℕ) → awaited_of (message_put m bytes) ≡ m.awaited
+put-awaited m bytes = either-awaited (may_put_message m (length bytes)) _ m refl
+
 decided-quiet : (s : SlaveState) → Unwanting s.kind.hardware → AreQuiet s.managers → AreQuiet (request_decided s).managers
 decided-quiet s u q n = ap (λ (t : SlaveState). awaited_of (manager_at t.managers n)) (decided-if s) ∙ by (decides s)
   where
     a : Al
     a = al_decided s.kind.hardware s
 
-    by : (b : Bool) → (let t : SlaveState = if b then with_al s a else s in awaited_of (manager_at t.managers n) ≡ false)
-    by true = awaited-quiet s.kind.hardware (has_outputs s) s.al.state a.state (managers_entered s.al.state a.state s.managers) u (entered-quiet s.al.state a.state s.managers q) n
+    by : (b : Bool) → (let t : SlaveState = if b then with_al s a else rested s in awaited_of (manager_at t.managers n) ≡ false)
+    by true = emergency-alike awaited_of put-awaited (greets_by s a) (replies_decided s a) (managers_decided s a) n
+        ∙ awaited-quiet s.kind.hardware (has_outputs s) s.al.state a.state (managers_entered s.al.state a.state s.managers) u (entered-quiet s.al.state a.state s.managers q) n
     by false = q n
 
 -- behind the decision a firmware step leaves what is awaited
@@ -275,14 +288,15 @@ before-op s q now = elim (op_or_not s.al.state) [ inl e ↦ q.in_op e | inr othe
 
 in-op : (s : SlaveState) → AwaitsOutsideOp s → (served s).al.state ≡ Op → (manager_at (request_decided s).managers 2).awaited ≡ (manager_at s.managers 2).awaited
 in-op s q now =
-    let there : (if decides s then al_decided s.kind.hardware s else s.al).state ≡ Op = ap (λ (a : Al). a.state) (sym (served-al s ∙ decided-al s)) ∙ now in
+    let there : (if decides s then al_decided s.kind.hardware s else (rested s).al).state ≡ Op = ap (λ (a : Al). a.state) (sym (served-al s ∙ decided-al s)) ∙ now in
     ap (λ (t : SlaveState). awaited_of (manager_at t.managers 2)) (decided-if s) ∙ by (decides s) there
   where
     a : Al
     a = al_decided s.kind.hardware s
 
-    by : (b : Bool) → (if b then a else s.al).state ≡ Op → (let t : SlaveState = if b then with_al s a else s in awaited_of (manager_at t.managers 2) ≡ awaited_of (manager_at s.managers 2))
-    by true e = ap (λ (ms : List SyncManager). awaited_of (manager_at ms 2)) (op-entered s.kind.hardware (has_outputs s) s.al.state a.state s.managers e)
+    by : (b : Bool) → (if b then a else (rested s).al).state ≡ Op → (let t : SlaveState = if b then with_al s a else rested s in awaited_of (manager_at t.managers 2) ≡ awaited_of (manager_at s.managers 2))
+    by true e = emergency-alike awaited_of put-awaited (greets_by s a) (replies_decided s a) (managers_decided s a) 2
+        ∙ ap (λ (ms : List SyncManager). awaited_of (manager_at ms 2)) (op-entered s.kind.hardware (has_outputs s) s.al.state a.state s.managers e)
     by false e = refl
 
 served-stays : (s : SlaveState) → AwaitsOutsideOp s → AwaitsOutsideOp (served s)
@@ -313,7 +327,7 @@ fault-stays s q = by s.al.state refl
     t = record s { al = al.faulted s.al; managers = slice_set s.managers 2 (locked_empty (manager_at s.managers 2)) }
 
     fallen : s.al.state ≡ Op → t.al.state ≡ SafeOp
-    fallen e = ap (λ (x : State). (if is_operational x then record { state = SafeOp; error = true; code = 1; requested = s.al.requested } else s.al).state) e
+    fallen e = ap (λ (x : State). (if is_operational x then record { state = SafeOp; error = true; code = 1; requested = s.al.requested; waited = s.al.waited } else s.al).state) e
 
     by : (x : State) → s.al.state ≡ x → AwaitsOutsideOp (if is_operational x then t else s)
     by Init e = q

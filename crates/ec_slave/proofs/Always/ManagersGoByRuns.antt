@@ -1,13 +1,15 @@
 -- The managers of a slave go by runs.
 use Rattle.std.proofs.Common.{ℕ, zero, suc, ◌+◌, ◌≡◌, ◌≤◌, ◌==◌, ◌&&◌, not, Bool, true, false, Option, Some, None, is_some, option_map, unwrap_or, refl, sym, ◌∙◌, ap, subst, inl, inr, if◌then◌else◌, List, [], ◌∷◌, ◌++◌, map, slice_set, ◌<◌, length-append, arith, append-nil, length, length-set}
 use Rattle.std.proofs.lemmas.List.Elements.{All-nil, All-cons, All-append}
-use Rattle.std.proofs.lemmas.Bool.{cases_Bool, eq-eqb, ne_eqb}
+use Rattle.std.proofs.lemmas.Bool.{cases_Bool, and_parts, eq-eqb, ne_eqb}
 use Rattle.ec_bits.proofs.AnyLaws.{if_true, if_false}
 use Rattle.ec_device.specs.declared.hardware.Hardware.{Hardware}
+use Rattle.ec_device.specs.Hardware.{has_emergency}
 use Rattle.ec_al.specs.Al.{Al, is_operational}
 use Rattle.ec_al.specs.declared.state.State.{State}
 use Rattle.ec_al.specs.declared.state.State.TheVariants.{Init, PreOp, SafeOp, Op}
 use Rattle.ec_coe.specs.declared.message.Message.{Message}
+use Rattle.ec_coe.specs.Emergency.{emergency_bytes}
 use Rattle.ec_frame.specs.declared.command.Command.{Command}
 use Rattle.ec_frame.specs.declared.command.Command.TheVariants.{Nop, Aprd, Apwr, Aprw, Fprd, Fpwr, Fprw, Brd, Bwr, Brw, Lrd, Lwr, Lrw, Armw, Frmw}
 use Rattle.ec_frame.specs.Datagram.{Datagram, adp_of}
@@ -23,9 +25,9 @@ use Rattle.ec_slave.specs.AgainstAll.{each_from, governs_among, value_among, bit
 use Rattle.ec_slave.specs.Logical.{meets_logically, span_of}
 use Rattle.ec_slave.specs.Meeting.{meets, meets_by, meets_physically, window_of}
 use Rattle.ec_slave.specs.Application.{is_running, with_manager, output_taken}
-use Rattle.ec_slave.specs.Serving.{served, al_decided, has_outputs, is_awaiting, outputs_awaited, with_al, request_decided, read_finished, message_served, managers_entered, unlocked_empty, reply_given, request_in, refusal_in, refused, bytes_to, is_served, is_init, is_safeop, is_preop}
+use Rattle.ec_slave.specs.Serving.{served, al_decided, has_outputs, is_slow, is_awaiting, waited_once, outputs_awaited, emergency_put, greets_by, replies_decided, reply_counter, with_al, request_decided, read_finished, message_served, managers_entered, unlocked_empty, reply_given, request_in, refusal_in, sent, bytes_to, is_served, is_init, is_safeop, is_preop}
 use Rattle.ec_slave.specs.Faulting.{faulted}
-use Rattle.ec_slave.specs.Steps.{AccessesAreSteps, IsRunTo, ManagersGoByRuns, is_of_ring, is_of_firmware, is_of_application, said_from, to_each, to_one, access_steps, physical_steps, logical_steps, steps_met, steps_awaited, steps_entered, steps_decided, steps_to, bytes_back, message_steps, steps_answered}
+use Rattle.ec_slave.specs.Steps.{AccessesAreSteps, IsRunTo, ManagersGoByRuns, is_of_ring, is_of_firmware, is_of_application, said_from, to_each, to_one, access_steps, physical_steps, logical_steps, steps_met, steps_awaited, steps_entered, steps_greeted, steps_decided, steps_to, bytes_back, message_steps, steps_answered}
 use Rattle.ec_slave.proofs.Memory.AgainstAll.{physical_against_all, logical_against_all}
 use Rattle.ec_slave.proofs.AppAccess.WholeInputs.{both_true}
 
@@ -277,18 +279,57 @@ state_run (Some h) outputs old SafeOp ms n = by (is_safeop old)
     by false = then_awaited
 state_run (Some h) outputs old Op ms n = followed_by_none is_of_firmware 2 _ _ _ (entered_run old Op ms n)
 
+-- an emergency is put as PREOP is entered from INIT: nothing else is done to a manager then
+put_alone : (o : Option Hardware) (outputs : Bool) (ms : List SyncManager) (bytes : List ℕ)
+    → AllRunTo is_of_firmware 2 (λ n. (steps_entered Init PreOp ms n ++ steps_awaited o outputs Init PreOp ms n) ++ to_one 1 (MessagePut bytes ∷ []) ms n) ms
+    (let xs : List SyncManager = outputs_awaited o outputs Init PreOp (managers_entered Init PreOp ms) in slice_set xs 1 (message_put (manager_at xs 1) bytes))
+put_alone None outputs ms bytes = set_run is_of_firmware 2 ms 1 (MessagePut bytes ∷ []) _ (one_step is_of_firmware 2 (manager_at ms 1) _ (MessagePut bytes) (omega arith) refl refl)
+put_alone (Some h) outputs ms bytes = set_run is_of_firmware 2 ms 1 (MessagePut bytes ∷ []) _ (one_step is_of_firmware 2 (manager_at ms 1) _ (MessagePut bytes) (omega arith) refl refl)
+
+-- a state is entered, outputs are awaited, and an emergency is sent
+greeted_run : (o : Option Hardware) (outputs : Bool) (old new : State) (ms : List SyncManager) (g : Bool) (replies : ℕ) → (g ≡ true → (old ≡ Init) × (new ≡ PreOp))
+    → AllRunTo is_of_firmware 2 (λ n. (steps_entered old new ms n ++ steps_awaited o outputs old new ms n) ++ steps_greeted g replies ms n) ms
+    (emergency_put g replies (outputs_awaited o outputs old new (managers_entered old new ms)))
+greeted_run o outputs old new ms false replies h = λ n. followed_by_none is_of_firmware 2 _ _ _ (state_run o outputs old new ms n)
+greeted_run o outputs old new ms true replies h =
+    subst (λ (x : State). AllRunTo is_of_firmware 2 (λ n. (steps_entered x new ms n ++ steps_awaited o outputs x new ms n) ++ steps_greeted true replies ms n) ms
+    (emergency_put true replies (outputs_awaited o outputs x new (managers_entered x new ms)))) (sym (h refl).0)
+    (subst (λ (x : State). AllRunTo is_of_firmware 2 (λ n. (steps_entered Init x ms n ++ steps_awaited o outputs Init x ms n) ++ steps_greeted true replies ms n) ms
+    (emergency_put true replies (outputs_awaited o outputs Init x (managers_entered Init x ms)))) (sym (h refl).1)
+    (put_alone o outputs ms (emergency_bytes (reply_counter replies))))
+
+init-is : (x : State) → is_init x ≡ true → x ≡ Init
+init-is Init e = refl
+init-is PreOp e = cc
+init-is SafeOp e = cc
+init-is Op e = cc
+
+preop-is : (x : State) → is_preop x ≡ true → x ≡ PreOp
+preop-is Init e = cc
+preop-is PreOp e = refl
+preop-is SafeOp e = cc
+preop-is Op e = cc
+
+pub greets-between : (s : SlaveState) (a : Al) → greets_by s a ≡ true → (s.al.state ≡ Init) × (a.state ≡ PreOp)
+greets-between s a e =
+    let behind = (and_parts (has_emergency s.kind.hardware) _ e).1 in
+    let new = and_parts (is_preop a.state) _ behind in
+    let old = and_parts (is_init s.al.state) _ new.1 in
+    (init-is s.al.state old.0, preop-is a.state new.0)
+
 decided_run : (s : SlaveState) → SlaveRuns is_of_firmware 2 (steps_decided s) s (request_decided s)
 unfolding request_decided
 decided_run s =
-    either_slave is_of_firmware 2 s.al.requested (λ n. if is_awaiting s.kind.hardware s then [] else steps_to s (al_decided s.kind.hardware s).state n) s _
-    (by (is_awaiting s.kind.hardware s))
+    either_slave is_of_firmware 2 s.al.requested (λ n. if is_slow s.kind.hardware s then [] else (if is_awaiting s.kind.hardware s then [] else steps_to s a n)) s _
+    (by (is_slow s.kind.hardware s) (is_awaiting s.kind.hardware s))
   where
     a : Al
     a = al_decided s.kind.hardware s
 
-    by : (b : Bool) → SlaveRuns is_of_firmware 2 (λ n. if b then [] else steps_to s a.state n) s (if b then s else with_al s a)
-    by true = none_all is_of_firmware 2 s.managers
-    by false = state_run s.kind.hardware (has_outputs s) s.al.state a.state s.managers
+    by : (b c : Bool) → SlaveRuns is_of_firmware 2 (λ n. if b then [] else (if c then [] else steps_to s a n)) s (if b then waited_once s else (if c then s else with_al s a))
+    by true c = none_all is_of_firmware 2 s.managers
+    by false true = none_all is_of_firmware 2 s.managers
+    by false false = greeted_run s.kind.hardware (has_outputs s) s.al.state a.state s.managers (greets_by s a) (replies_decided s a) (greets-between s a)
 
 same_managers : (s : SlaveState) → (read_finished s).managers ≡ s.managers
 unfolding read_finished
@@ -319,7 +360,7 @@ alone_run [] n = no_run is_of_firmware 1 _
 alone_run (x ∷ ms) zero = one_step is_of_firmware 1 x _ MessageTake (omega arith) refl refl
 alone_run (x ∷ ms) (suc n) = none_run is_of_firmware 1 _ _ (beyond 1 (message_steps None) ms n (λ j m l. if_false _ _ _ (ne_eqb j 0 (λ q. omega (arith, l, q))) ∙ either_way (j == 1) []))
 
-put_one : (s : SlaveState) (bytes : List ℕ) → SlaveRuns is_of_firmware 1 (λ n. said_from 0 (message_steps (Some bytes)) s.managers n) s (refused (with_manager s 0 (message_taken (manager_at s.managers 0))) bytes)
+put_one : (s : SlaveState) (bytes : List ℕ) → SlaveRuns is_of_firmware 1 (λ n. said_from 0 (message_steps (Some bytes)) s.managers n) s (sent (with_manager s 0 (message_taken (manager_at s.managers 0))) bytes)
 put_one s bytes =
     let t : SlaveState = with_manager s 0 (message_taken (manager_at s.managers 0)) in
     subst (λ (m : SyncManager). AllRunTo is_of_firmware 1 (λ n. said_from 0 (message_steps (Some bytes)) s.managers n) s.managers (slice_set t.managers 1 (message_put m bytes))) (sym (next s.managers (message_taken (manager_at s.managers 0))))

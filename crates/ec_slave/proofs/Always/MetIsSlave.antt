@@ -21,6 +21,7 @@ use Rattle.ec_sync.specs.Sound.{IsManager}
 use Rattle.ec_sync.proofs.Lengths.{buffer_length_set}
 use Rattle.ec_sii.specs.Port.{Sii, address_byte, address_written, addressed, byte_for, command_address, commanded, written}
 use Rattle.ec_fmmu.specs.Applied.{LogicalSpan, touched_by_reading, touched_by_writing}
+use Rattle.ec_coe.specs.SwitchedOn.{bare_dictionary, first_value}
 use Rattle.ec_slave.specs.State.{SlaveState, Met, manager_at, power_on, memory_length, station_of}
 use Rattle.ec_slave.specs.Sound.{IsSlave, AreBytes, PowerOnIsSlave, MetIsSlave}
 use Rattle.ec_slave.specs.Roles.{role_of, is_reading, is_writing}
@@ -193,6 +194,7 @@ after-is s reads writes w b h =
       in_slots = h.in_slots;
       out_count = h.out_count;
       in_count = h.in_count;
+      parameters = h.parameters;
     }
 
 physically-is : (s : SlaveState) (d : Datagram) → AreBytes d.data_bytes → IsSlave s → IsSlave (meets_physically s d).slave
@@ -212,6 +214,7 @@ logically-is reading writing weight s d h =
       in_slots = h.in_slots;
       out_count = h.out_count;
       in_count = h.in_count;
+      parameters = h.parameters;
     }
 
 exchanging-is : (b : Bool) (s : SlaveState) (d : Datagram) → IsSlave s
@@ -257,6 +260,7 @@ power_on_is_slave kind identity = record {
   in_slots = length-map kind.inputs (λ (p : Pdo). p.index);
   out_count = indices-long kind.outputs;
   in_count = indices-long kind.inputs;
+  parameters = length-map kind.init (first_value (bare_dictionary kind identity));
 }
   where
     each : (n : ℕ) → IsManager (manager_at (no_manager ∷ no_manager ∷ no_manager ∷ no_manager ∷ []) n)

@@ -9,7 +9,8 @@ use Rattle.ec_al.specs.Al as al
 use Rattle.ec_al.specs.Al.{Al}
 use Rattle.ec_sync.specs.SyncManager.{SyncManager, no_manager}
 use Rattle.ec_slave.specs.State.{SlaveState, memory_length, power_on}
-use Rattle.ec_coe.specs.Objects.{Dictionary, all_assigned, new_dictionary}
+use Rattle.ec_coe.specs.Objects.{Dictionary, all_assigned}
+use Rattle.ec_coe.specs.SwitchedOn.{first_values, new_dictionary}
 
 abbrev image-of : Sii → SiiImage
 image-of p = p.image
@@ -53,23 +54,25 @@ state_of d memory managers a sii link replies = record {
   link = link;
   outs = d.outs;
   ins = d.ins;
+  values = d.values;
   replies = replies;
 }
 
 -- a slave all of whose parts are as the power comes on
 pub powered : (s : SlaveState) → s.memory ≡ zeros memory_length → s.managers ≡ (no_manager ∷ no_manager ∷ no_manager ∷ no_manager ∷ []) → s.al ≡ al.power_on
     → s.sii ≡ idle_port (image_of s.kind s.identity) → s.link ≡ new_data_link s.kind.face → s.outs ≡ all_assigned s.kind.outputs → s.ins ≡ all_assigned s.kind.inputs
-    → s.replies ≡ 0 → s ≡ power_on s.kind s.identity
+    → s.values ≡ first_values s.kind s.identity → s.replies ≡ 0 → s ≡ power_on s.kind s.identity
 unfolding power_on
-powered s memory managers al sii link outs ins replies =
+powered s memory managers al sii link outs ins values replies =
     ap (λ x. record s { memory = x }) memory
     ∙ (ap (λ x. record s { memory = zeros memory_length; managers = x }) managers
-    ∙ (ap (λ x. record (power_on s.kind s.identity) { al = x; sii = s.sii; link = s.link; outs = s.outs; ins = s.ins; replies = s.replies }) al
-    ∙ (ap (λ x. record (power_on s.kind s.identity) { sii = x; link = s.link; outs = s.outs; ins = s.ins; replies = s.replies }) sii
-    ∙ (ap (λ x. record (power_on s.kind s.identity) { link = x; outs = s.outs; ins = s.ins; replies = s.replies }) link
-    ∙ (ap (λ x. record (power_on s.kind s.identity) { outs = x; ins = s.ins; replies = s.replies }) outs
-    ∙ (ap (λ x. record (power_on s.kind s.identity) { ins = x; replies = s.replies }) ins
-    ∙ ap (λ x. record (power_on s.kind s.identity) { replies = x }) replies))))))
+    ∙ (ap (λ x. record (power_on s.kind s.identity) { al = x; sii = s.sii; link = s.link; outs = s.outs; ins = s.ins; values = s.values; replies = s.replies }) al
+    ∙ (ap (λ x. record (power_on s.kind s.identity) { sii = x; link = s.link; outs = s.outs; ins = s.ins; values = s.values; replies = s.replies }) sii
+    ∙ (ap (λ x. record (power_on s.kind s.identity) { link = x; outs = s.outs; ins = s.ins; values = s.values; replies = s.replies }) link
+    ∙ (ap (λ x. record (power_on s.kind s.identity) { outs = x; ins = s.ins; values = s.values; replies = s.replies }) outs
+    ∙ (ap (λ x. record (power_on s.kind s.identity) { ins = x; values = s.values; replies = s.replies }) ins
+    ∙ (ap (λ x. record (power_on s.kind s.identity) { values = x; replies = s.replies }) values
+    ∙ ap (λ x. record (power_on s.kind s.identity) { replies = x }) replies)))))))
 
 -- a slave whose dictionary was reset, and whose other parts are as the power comes on
 pub reset-as-new : (old new : Dictionary) (memory : List ℕ) (managers : List SyncManager) (a : Al) (sii : Sii) (link : DataLink) → new ≡ new_dictionary old.kind old.identity
@@ -79,4 +82,4 @@ pub reset-as-new : (old new : Dictionary) (memory : List ℕ) (managers : List S
 unfolding power_on
 reset-as-new old new memory managers a sii link d m ms e i l =
     ap (λ (x : Dictionary). state_of x memory managers a sii link 0) d
-    ∙ powered (state_of (new_dictionary old.kind old.identity) memory managers a sii link 0) m ms e i l refl refl refl
+    ∙ powered (state_of (new_dictionary old.kind old.identity) memory managers a sii link 0) m ms e i l refl refl refl refl

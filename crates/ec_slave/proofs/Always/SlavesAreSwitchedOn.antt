@@ -30,6 +30,7 @@ switched_on kind identity = record {
   link = refl;
   outs = refl;
   ins = refl;
+  values = refl;
 }
 
 four-whole : (n : ℕ) → IsManager (manager_at (no_manager ∷ no_manager ∷ no_manager ∷ no_manager ∷ []) n)

@@ -14,16 +14,17 @@ use Rattle.ec_al.specs.Al as al
 use Rattle.ec_al.specs.Al.{Al}
 use Rattle.ec_al.specs.declared.state.State.{State}
 use Rattle.ec_coe.specs.declared.message.Message.{Message}
+use Rattle.ec_coe.specs.Emergency.{emergency_bytes}
 use Rattle.ec_slave.specs.Roles.{role_of, is_reading, is_writing}
 use Rattle.ec_slave.specs.State.{SlaveState, Met, manager_at, station_of}
 use Rattle.ec_slave.specs.Physical.{Window, physical_after, physical_met}
 use Rattle.ec_slave.specs.Logical.{meets_logically}
 use Rattle.ec_slave.specs.Meeting.{window_of, meets, meets_by, meets_physically, slave_met}
 use Rattle.ec_slave.specs.Application.{input_put, output_got, output_taken, with_manager, is_running}
-use Rattle.ec_slave.specs.Serving.{served, al_decided, has_outputs, outputs_awaited, request_decided, read_finished, message_served, reply_given, request_in, refusal_in, refused, bytes_to, is_served, managers_entered, unlocked_empty, is_init, is_safeop, is_preop, with_al}
+use Rattle.ec_slave.specs.Serving.{served, al_decided, has_outputs, outputs_awaited, request_decided, read_finished, message_served, reply_given, request_in, refusal_in, sent, reply_counter, emergency_put, greets_by, managers_decided, replies_decided, bytes_to, is_served, managers_entered, unlocked_empty, is_init, is_safeop, is_preop, with_al}
 use Rattle.ec_slave.specs.Faulting.{faulted, locked_empty}
 use Rattle.ec_slave.specs.Interface.{AreWhole, ValuesStayWhole}
-use Rattle.ec_slave.proofs.FirmwareRuns.RestsQuietly.{decided-if, decides}
+use Rattle.ec_slave.proofs.FirmwareRuns.RestsQuietly.{decided-if, decides, rested}
 use Rattle.ec_slave.proofs.Always.MetIsSlave.{AreSound, empty-sound, no-manager-sound, all-met-sound, all-exchanged-sound}
 
 none_some : {X : Type 0} (x : X) → None ≡ Some x → ⊥
@@ -213,14 +214,26 @@ awaited-sound (Some x) outputs old new ms h = by (is_safeop new && not (is_safeo
     by true = set-sound ms 2 (awaiting (manager_at ms 2) (x.has_firmware && outputs)) h (let m = h 2 in record { published = m.published; draft = m.draft; view = m.view })
     by false = h
 
+message_put-sound : (m : SyncManager) (bytes : List ℕ) → IsManager m → IsManager (message_put m bytes)
+message_put-sound m bytes h = by (may_put_message m (length bytes))
+  where
+    by : (b : Bool) → (let x : SyncManager = if b then record m { mail = Some (padded m bytes) } else m in IsManager x)
+    by true = record { published = h.published; draft = h.draft; view = h.view }
+    by false = h
+
+emergency-sound : (b : Bool) (replies : ℕ) (ms : List SyncManager) → AreSound ms → AreSound (emergency_put b replies ms)
+emergency-sound false replies ms h = h
+emergency-sound true replies ms h = set-sound ms 1 (message_put (manager_at ms 1) (emergency_bytes (reply_counter replies))) h (message_put-sound (manager_at ms 1) (emergency_bytes (reply_counter replies)) (h 1))
+
 decided-whole : (s : SlaveState) → AreWhole s → AreWhole (request_decided s)
 decided-whole s h = subst AreWhole (sym (decided-if s)) (by (decides s))
   where
     a : Al
     a = al_decided s.kind.hardware s
 
-    by : (b : Bool) → (let x : SlaveState = if b then with_al s a else s in AreWhole x)
-    by true = awaited-sound s.kind.hardware (has_outputs s) s.al.state a.state (managers_entered s.al.state a.state s.managers) (entered-sound s.al.state a.state s.managers h)
+    by : (b : Bool) → (let x : SlaveState = if b then with_al s a else rested s in AreWhole x)
+    by true = emergency-sound (greets_by s a) (replies_decided s a) (managers_decided s a)
+        (awaited-sound s.kind.hardware (has_outputs s) s.al.state a.state (managers_entered s.al.state a.state s.managers) (entered-sound s.al.state a.state s.managers h))
     by false = h
 
 finished-whole : (s : SlaveState) → AreWhole s → AreWhole (read_finished s)
@@ -234,14 +247,7 @@ message_taken-sound m h = by (is_some (message_in m))
     by true = record { published = h.published; draft = h.draft; view = h.view }
     by false = h
 
-message_put-sound : (m : SyncManager) (bytes : List ℕ) → IsManager m → IsManager (message_put m bytes)
-message_put-sound m bytes h = by (may_put_message m (length bytes))
-  where
-    by : (b : Bool) → (let x : SyncManager = if b then record m { mail = Some (padded m bytes) } else m in IsManager x)
-    by true = record { published = h.published; draft = h.draft; view = h.view }
-    by false = h
-
-back-whole : (s : SlaveState) (bytes : List ℕ) → AreWhole s → AreWhole (refused s bytes)
+back-whole : (s : SlaveState) (bytes : List ℕ) → AreWhole s → AreWhole (sent s bytes)
 back-whole s bytes h = set-sound s.managers 1 (message_put (manager_at s.managers 1) bytes) h (message_put-sound (manager_at s.managers 1) bytes (h 1))
 
 reply-whole : (s : SlaveState) (f : Option (List ℕ)) (o : Option Message) → AreWhole s → AreWhole (reply_given s f o)

@@ -8,16 +8,17 @@ use Rattle.ec_regs.specs.declared.manager.SyncManagerSettings.{SyncManagerSettin
 use Rattle.ec_sync.specs.SyncManager.{SyncManager, awaiting, message_taken, message_put, message_in, zeros_published}
 use Rattle.ec_al.specs.declared.state.State.{State}
 use Rattle.ec_al.specs.declared.state.State.TheVariants.{Init, PreOp, SafeOp, Op}
-use Rattle.ec_al.specs.Al.{Al}
+use Rattle.ec_al.specs.Al.{Al, waiting}
 use Rattle.ec_sii.specs.Port as port
 use Rattle.ec_sii.specs.Port.{Sii}
 use Rattle.ec_coe.specs.declared.message.Message.{Message}
 use Rattle.ec_coe.specs.Answers.{answered}
+use Rattle.ec_coe.specs.Emergency.{emergency_bytes}
 use Rattle.ec_coe.specs.Laws.{KeepsAssignments}
 use Rattle.ec_coe.proofs.AssignmentsStay.{assignments_kept}
 use Rattle.ec_slave.specs.State.{SlaveState, manager_at, fmmus_of}
 use Rattle.ec_slave.specs.Application.{is_running, with_manager}
-use Rattle.ec_slave.specs.Serving.{served, request_decided, read_finished, message_served, al_decided, has_outputs, is_awaiting, outputs_awaited, with_al, managers_entered, is_served, reply_given, request_in, refusal_in, bytes_to, is_preop, dictionary_of, reply_counter, unlocked_empty, is_init, is_safeop, has_mailbox, takes_reply}
+use Rattle.ec_slave.specs.Serving.{served, request_decided, read_finished, message_served, al_decided, has_outputs, is_slow, is_awaiting, waited_once, outputs_awaited, emergency_put, greets_by, managers_decided, replies_decided, with_al, managers_entered, is_served, reply_given, request_in, refusal_in, bytes_to, is_preop, dictionary_of, reply_counter, unlocked_empty, is_init, is_safeop, has_mailbox, takes_reply}
 use Rattle.ec_slave.specs.FirmwareLaws.{RestsQuietly, ServesKeepSettings, ServesKeepBuffers}
 
 -- ---- nothing waits
@@ -121,6 +122,18 @@ entered-running Op PreOp ms a b = absurd (let f : false ≡ true = b in cc)
 entered-running Op SafeOp ms a b = refl
 entered-running Op Op ms a b = refl
 
+-- an emergency changes neither, nor what else a message leaves
+pub emergency-alike : {X : Type 0} (f : SyncManager → X) → ((m : SyncManager) (bytes : List ℕ) → f (message_put m bytes) ≡ f m) → (b : Bool) (replies : ℕ) (ms : List SyncManager) (n : ℕ) → f (manager_at (emergency_put b replies ms) n) ≡ f (manager_at ms n)
+emergency-alike f h false replies ms n = refl
+emergency-alike f h true replies ms n =
+    set-alike f ms 1 (message_put (manager_at ms 1) (emergency_bytes (reply_counter replies))) (h (manager_at ms 1) (emergency_bytes (reply_counter replies))) n
+
+emergency-settings : (b : Bool) (replies : ℕ) (ms : List SyncManager) (n : ℕ) → (manager_at (emergency_put b replies ms) n).settings ≡ (manager_at ms n).settings
+emergency-settings = emergency-alike (λ (m : SyncManager). m.settings) put-settings
+
+emergency-buffers : (b : Bool) (replies : ℕ) (ms : List SyncManager) (n : ℕ) → (manager_at (emergency_put b replies ms) n).buffer ≡ (manager_at ms n).buffer
+emergency-buffers = emergency-alike (λ (m : SyncManager). m.buffer) put-buffer
+
 -- ---- the message
 
 -- what the message part leaves
@@ -187,27 +200,43 @@ message-kept s = either-kept (is_served s) s _ (replied-kept s (refusal_in s) (r
 
 -- ---- the AL request
 
--- whether a request is decided now
+-- whether a request is decided now, and whether it is let wait
 abbrev pub decides : SlaveState → Bool
-decides s = s.al.requested && not (is_awaiting s.kind.hardware s)
+decides s = s.al.requested && (not (is_slow s.kind.hardware s) && not (is_awaiting s.kind.hardware s))
 
-nested-if : {X : Type 0} (b c : Bool) (x y : X) → (if b then (if c then y else x) else y) ≡ (if b && not c then x else y)
-nested-if true true x y = refl
-nested-if true false x y = refl
-nested-if false c x y = refl
+abbrev pub lets_wait : SlaveState → Bool
+lets_wait s = s.al.requested && is_slow s.kind.hardware s
 
-pub decided-if : (s : SlaveState) → request_decided s ≡ (if decides s then with_al s (al_decided s.kind.hardware s) else s)
+-- a slave that decides nothing: the count of the steps alone goes on
+abbrev pub rested_by : Bool → SlaveState → SlaveState
+rested_by b s = record s { al = if b then waiting s.al else s.al }
+
+abbrev pub rested : SlaveState → SlaveState
+rested s = rested_by (lets_wait s) s
+
+nested-if : (b c d : Bool) (s y : SlaveState) → (if b then (if c then waited_once s else (if d then s else y)) else s) ≡ (if b && (not c && not d) then y else rested_by (b && c) s)
+nested-if true true d s y = refl
+nested-if true false true s y = refl
+nested-if true false false s y = refl
+nested-if false c d s y = refl
+
+pub decided-if : (s : SlaveState) → request_decided s ≡ (if decides s then with_al s (al_decided s.kind.hardware s) else rested s)
 unfolding request_decided
-decided-if s = nested-if s.al.requested (is_awaiting s.kind.hardware s) (with_al s (al_decided s.kind.hardware s)) s
+decided-if s = nested-if s.al.requested (is_slow s.kind.hardware s) (is_awaiting s.kind.hardware s) s (with_al s (al_decided s.kind.hardware s))
 
-either-al : (b : Bool) (s : SlaveState) (a : Al) → (if b then with_al s a else s).al ≡ (if b then a else s.al)
+-- whoever waits stays in his state
+pub waiting-state : (b : Bool) (a : Al) → (if b then waiting a else a).state ≡ a.state
+waiting-state true a = refl
+waiting-state false a = refl
+
+either-al : (b : Bool) (s : SlaveState) (a : Al) → (if b then with_al s a else rested s).al ≡ (if b then a else (rested s).al)
 either-al true s a = refl
 either-al false s a = refl
 
-pub decided-al : (s : SlaveState) → (request_decided s).al ≡ (if decides s then al_decided s.kind.hardware s else s.al)
+pub decided-al : (s : SlaveState) → (request_decided s).al ≡ (if decides s then al_decided s.kind.hardware s else (rested s).al)
 decided-al s = ap (λ (t : SlaveState). t.al) (decided-if s) ∙ either-al (decides s) s _
 
-either-memory : (b : Bool) (s : SlaveState) (a : Al) → (if b then with_al s a else s).memory ≡ s.memory
+either-memory : (b : Bool) (s : SlaveState) (a : Al) → (if b then with_al s a else rested s).memory ≡ s.memory
 either-memory true s a = refl
 either-memory false s a = refl
 
@@ -219,28 +248,31 @@ pub record Same (s t : SlaveState) : Type 0 where
   pub identity : t.identity ≡ s.identity
   pub outs : t.outs ≡ s.outs
   pub ins : t.ins ≡ s.ins
+  pub values : t.values ≡ s.values
 
-either-same : (b : Bool) (s : SlaveState) (a : Al) → Same s (if b then with_al s a else s)
-either-same true s a = record { kind = refl; identity = refl; outs = refl; ins = refl }
-either-same false s a = record { kind = refl; identity = refl; outs = refl; ins = refl }
+either-same : (b : Bool) (s : SlaveState) (a : Al) → Same s (if b then with_al s a else rested s)
+either-same true s a = record { kind = refl; identity = refl; outs = refl; ins = refl; values = refl }
+either-same false s a = record { kind = refl; identity = refl; outs = refl; ins = refl; values = refl }
 
 pub decided-same : (s : SlaveState) → Same s (request_decided s)
 decided-same s = subst (λ (t : SlaveState). Same s t) (sym (decided-if s)) (either-same (decides s) s _)
 
-settings-decided : (b : Bool) (s : SlaveState) (a : Al) (n : ℕ) → (manager_at (if b then with_al s a else s).managers n).settings ≡ (manager_at s.managers n).settings
+settings-decided : (b : Bool) (s : SlaveState) (a : Al) (n : ℕ) → (manager_at (if b then with_al s a else rested s).managers n).settings ≡ (manager_at s.managers n).settings
 settings-decided true s a n =
-    awaited-settings s.kind.hardware (has_outputs s) s.al.state a.state (managers_entered s.al.state a.state s.managers) n
-    ∙ entered-settings s.al.state a.state s.managers n
+    emergency-settings (greets_by s a) (replies_decided s a) (managers_decided s a) n
+    ∙ (awaited-settings s.kind.hardware (has_outputs s) s.al.state a.state (managers_entered s.al.state a.state s.managers) n
+    ∙ entered-settings s.al.state a.state s.managers n)
 settings-decided false s a n = refl
 
 decided-settings : (s : SlaveState) (n : ℕ) → (manager_at (request_decided s).managers n).settings ≡ (manager_at s.managers n).settings
 decided-settings s n = ap (λ (t : SlaveState). (manager_at t.managers n).settings) (decided-if s) ∙ settings-decided (decides s) s _ n
 
-buffers-decided : (b : Bool) (s : SlaveState) (a : Al) (n : ℕ) → is_running s.al.state ≡ true → is_running (if b then with_al s a else s).al.state ≡ true
-    → (manager_at (if b then with_al s a else s).managers n).buffer ≡ (manager_at s.managers n).buffer
+buffers-decided : (b : Bool) (s : SlaveState) (a : Al) (n : ℕ) → is_running s.al.state ≡ true → is_running (if b then with_al s a else rested s).al.state ≡ true
+    → (manager_at (if b then with_al s a else rested s).managers n).buffer ≡ (manager_at s.managers n).buffer
 buffers-decided true s a n r h =
-    awaited-buffers s.kind.hardware (has_outputs s) s.al.state a.state (managers_entered s.al.state a.state s.managers) n
-    ∙ ap (λ (ms : List SyncManager). (manager_at ms n).buffer) (entered-running s.al.state a.state s.managers r h)
+    emergency-buffers (greets_by s a) (replies_decided s a) (managers_decided s a) n
+    ∙ (awaited-buffers s.kind.hardware (has_outputs s) s.al.state a.state (managers_entered s.al.state a.state s.managers) n
+    ∙ ap (λ (ms : List SyncManager). (manager_at ms n).buffer) (entered-running s.al.state a.state s.managers r h))
 buffers-decided false s a n r h = refl
 
 decided-buffers : (s : SlaveState) (n : ℕ) → is_running s.al.state ≡ true → is_running (request_decided s).al.state ≡ true → (manager_at (request_decided s).managers n).buffer ≡ (manager_at s.managers n).buffer
@@ -263,7 +295,7 @@ served-al s = (message-kept (read_finished (request_decided s))).al ∙ (read-ma
 decided-link : (s : SlaveState) → (request_decided s).link ≡ s.link
 decided-link s = ap (λ (t : SlaveState). t.link) (decided-if s) ∙ by (decides s) (with_al s (al_decided s.kind.hardware s)) refl
   where
-    by : (b : Bool) (t : SlaveState) → t.link ≡ s.link → (let x : SlaveState = if b then t else s in x.link ≡ s.link)
+    by : (b : Bool) (t : SlaveState) → t.link ≡ s.link → (let x : SlaveState = if b then t else rested s in x.link ≡ s.link)
     by true t h = h
     by false t h = refl
 

@@ -1,12 +1,12 @@
 -- Which states a firmware step enters, and what it checks before.
-use Rattle.std.proofs.Common.{ℕ, ◌≡◌, ◌≢◌, ◌&&◌, not, Bool, true, false, Result, Ok, Err, refl, sym, ◌∙◌, ap, arith, if◌then◌else◌, Option, Some, None}
+use Rattle.std.proofs.Common.{ℕ, ◌≡◌, ◌≢◌, ◌&&◌, not, Bool, true, false, Result, Ok, Err, refl, sym, ◌∙◌, ap, subst, arith, if◌then◌else◌, Option, Some, None}
 use Rattle.std.proofs.lemmas.Bool.{and_parts}
 use Rattle.ec_bits.proofs.AnyLaws.{if_true}
 use Rattle.ec_device.specs.declared.hardware.Hardware.{Hardware}
 use Rattle.ec_device.specs.Hardware.{has_firmware}
 use Rattle.ec_al.specs.States.{state_number}
 use Rattle.ec_al.specs.Transitions.{requested_number, requested_by, acknowledges, answer}
-use Rattle.ec_al.specs.Al.{Al, decided, ignored, answered}
+use Rattle.ec_al.specs.Al.{Al, decided, ignored, answered, waiting}
 use Rattle.ec_al.specs.declared.state.State.{State}
 use Rattle.ec_al.specs.declared.state.State.TheVariants.{Init, PreOp, SafeOp, Op}
 use Rattle.ec_al.specs.declared.status_code.StatusCode.{StatusCode}
@@ -15,9 +15,9 @@ use Rattle.ec_al.specs.declared.transition.Requested.TheVariants.{To, Bootstrap,
 use Rattle.ec_al.specs.declared.transition.Checks.{Checks}
 use Rattle.ec_slave.specs.State.{SlaveState}
 use Rattle.ec_slave.specs.Checking.{checks_of, control_word}
-use Rattle.ec_slave.specs.Serving.{served, al_decided, replies_entered, reply_counter, with_al}
+use Rattle.ec_slave.specs.Serving.{served, al_decided, emergency_counted, greets_by, replies_decided, replies_entered, reply_counter, with_al}
 use Rattle.ec_slave.specs.FirmwareLaws.{StatesAreEntered, FirstReplyIsOne}
-use Rattle.ec_slave.proofs.FirmwareRuns.RestsQuietly.{served-al, decided-al, decided-if, decides}
+use Rattle.ec_slave.proofs.FirmwareRuns.RestsQuietly.{served-al, decided-al, decided-if, decides, lets_wait, rested, waiting-state}
 
 -- another state was granted, by the request that waited
 changed-by : (b d : Bool) (al : Al) (r : Result State StatusCode) (s : State) → al.state ≢ s → (if b then (if d then ignored al else answered al r) else al).state ≡ s → (b ≡ true) × (r ≡ Ok s)
@@ -80,8 +80,15 @@ pub by-firmware : (o : Option Hardware) (s : SlaveState) → has_firmware o ≡ 
 by-firmware None s e = refl
 by-firmware (Some h) s e = if_true _ _ _ e
 
+-- a decision by the checks, or the same state
+same-state : (b c : Bool) (x y : Al) → (if b then x else (if c then waiting y else y)).state ≡ (if b then x else y).state
+same-state true c x y = refl
+same-state false c x y = waiting-state c y
+
 pub served-state : (s : SlaveState) → has_firmware s.kind.hardware ≡ true → (served s).al.state ≡ (if decides s then decided s.al (control_word s) (checks_of s) else s.al).state
-served-state s f = ap (λ (a : Al). a.state) (served-al s ∙ (decided-al s ∙ ap (λ (a : Al). if decides s then a else s.al) (by-firmware s.kind.hardware s f)))
+served-state s f =
+    ap (λ (a : Al). a.state) (served-al s ∙ (decided-al s ∙ ap (λ (a : Al). if decides s then a else (rested s).al) (by-firmware s.kind.hardware s f)))
+    ∙ same-state (decides s) (lets_wait s) (decided s.al (control_word s) (checks_of s)) s.al
 
 -- a request that is decided waits
 pub waits : (s : SlaveState) → decides s ≡ true → s.al.requested ≡ true
@@ -101,11 +108,19 @@ states_entered s f = (
       preop-answer (requested_by (control_word s)) (checks_of s) (sym (ap (λ (x : State). answer x (requested_by (control_word s)) (checks_of s)) was) ∙ g.1),
 )
 
-first-by : (b : Bool) (s : SlaveState) (a : Al) → s.al.state ≡ Init → (if b then with_al s a else s).al.state ≡ PreOp → reply_counter (if b then with_al s a else s).replies ≡ 1
-first-by true s a was now = ap (λ (x : State). reply_counter (replies_entered x a.state s.replies)) was ∙ ap (λ (x : State). reply_counter (replies_entered Init x s.replies)) now
-first-by false s a was now = let f : Init ≡ PreOp = sym was ∙ now in cc
+-- the counter behind an emergency, or without one
+counted : (b : Bool) (replies : ℕ) → replies ≡ 0 → reply_counter (emergency_counted b replies) ≡ (if b then 2 else 1)
+counted true replies e = ap (λ (n : ℕ). reply_counter (emergency_counted true n)) e
+counted false replies e = ap (λ (n : ℕ). reply_counter (emergency_counted false n)) e
+
+first-by : (b : Bool) (s : SlaveState) (a : Al) → s.al.state ≡ Init → (if b then with_al s a else rested s).al.state ≡ PreOp
+    → reply_counter (if b then with_al s a else rested s).replies ≡ (if greets_by s (if b then with_al s a else rested s).al then 2 else 1)
+first-by true s a was now =
+    counted (greets_by s a) (replies_decided s a) (ap (λ (x : State). replies_entered x a.state s.replies) was ∙ ap (λ (x : State). replies_entered Init x s.replies) now)
+first-by false s a was now = let f : Init ≡ PreOp = sym was ∙ (sym (waiting-state (lets_wait s) s.al) ∙ now) in cc
 
 pub first_is_one : FirstReplyIsOne
 first_is_one s was now =
-    ap (λ (t : SlaveState). reply_counter t.replies) (decided-if s)
-    ∙ first-by (decides s) s (al_decided s.kind.hardware s) was (ap (λ (t : SlaveState). t.al.state) (sym (decided-if s)) ∙ now)
+    let e = decided-if s in
+    subst (λ (t : SlaveState). reply_counter t.replies ≡ (if greets_by s t.al then 2 else 1)) (sym e)
+    (first-by (decides s) s (al_decided s.kind.hardware s) was (ap (λ (t : SlaveState). t.al.state) (sym e) ∙ now))

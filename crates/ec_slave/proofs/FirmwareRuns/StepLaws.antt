@@ -1,8 +1,9 @@
 -- The parts of a firmware step, and what it settles.
-use Rattle.std.proofs.Common.{ℕ, zero, suc, ◌%◌, ◌<◌, ◌≤◌, ◌≡◌, ◌==◌, ◌⊎◌, ◌&&◌, not, Bool, true, false, Option, Some, None, Result, Ok, Err, refl, sym, ◌∙◌, ap, subst, inl, inr, arith, if◌then◌else◌, List, [], ◌∷◌, length, set, nat_le, is_some, length-set, get_or-set_same, get_or-set_other}
+use Rattle.std.proofs.Common.{ℕ, zero, suc, ◌%◌, ◌<◌, ◌≤◌, ◌≡◌, ◌==◌, ◌⊎◌, ◌&&◌, not, Bool, true, false, Option, Some, None, Result, Ok, Err, refl, sym, ◌∙◌, ap, subst, inl, inr, arith, if◌then◌else◌, List, [], ◌∷◌, length, map, set, nat_le, is_some, length-set, get_or-set_same, get_or-set_other}
 use Rattle.std.proofs.lemmas.Bool.{false≢true, cases_Bool, and_parts, and_from, and_left, and_right, le-leb}
 use Rattle.ec_bits.proofs.AnyLaws.{if_true, if_false, if_none}
 use Rattle.ec_device.specs.declared.hardware.Hardware.{Hardware}
+use Rattle.ec_device.specs.Hardware.{has_emergency, is_fixed}
 use Rattle.ec_regs.specs.Managers.{is_mailbox, is_master_read, is_master_written}
 use Rattle.ec_sync.specs.SyncManager.{SyncManager, no_manager, is_enabled, message_in, message_taken, message_put, may_put_message, padded}
 use Rattle.ec_al.specs.declared.state.State.{State}
@@ -11,22 +12,24 @@ use Rattle.ec_al.specs.declared.transition.Checks.{Checks}
 use Rattle.ec_al.specs.declared.transition.Requested.{Requested}
 use Rattle.ec_al.specs.declared.transition.Requested.TheVariants.{To, Bootstrap, Unknown}
 use Rattle.ec_al.specs.Transitions.{answer, requested_by, acknowledges}
-use Rattle.ec_al.specs.Al.{Al}
+use Rattle.ec_al.specs.Al.{Al, waiting}
 use Rattle.ec_al.specs.Al as al
 use Rattle.ec_sii.specs.Port.{Sii, commanded, addressed, address_written, byte_for, command_address}
 use Rattle.ec_sii.specs.Port as port
 use Rattle.ec_sii.specs.declared.image.SiiImage.{SiiImage}
 use Rattle.ec_coe.specs.declared.message.Message.{Message}
-use Rattle.ec_coe.specs.Messages.{message_length}
+use Rattle.ec_coe.specs.declared.value.SdoValue.{SdoValue}
+use Rattle.ec_coe.specs.Messages.{message_length, size_number}
 use Rattle.ec_coe.specs.ReplyBytes.{reply_bytes}
 use Rattle.ec_coe.proofs.DownloadEffects.{answered-slots}
+use Rattle.ec_coe.proofs.Devices.{fixed_stays}
 use Rattle.ec_coe.proofs.Names.{replies_fit}
 use Rattle.ec_slave.specs.State.{SlaveState, manager_at}
 use Rattle.ec_slave.specs.Application.{with_manager}
 use Rattle.ec_slave.specs.Checking.{control_word, checks_of}
-use Rattle.ec_slave.specs.Serving.{al_decided, is_awaiting, with_al, dictionary_of, is_init, is_preop, has_mailbox, takes_reply, is_served, request_in, reply_counter, answer_to, bytes_to, replied, refused, refusal_in, reply_given, request_decided, read_finished, message_served, served}
+use Rattle.ec_slave.specs.Serving.{al_decided, is_slow, is_awaiting, with_al, dictionary_of, is_init, is_preop, has_mailbox, takes_reply, is_served, request_in, reply_counter, answer_to, bytes_to, replied, sent, refusal_in, reply_given, request_decided, read_finished, message_served, served}
 use Rattle.ec_slave.specs.Interface.{PlainTypesDecide, StepsSettle, StepsHaveThreeParts, RequestsAreDecided, ChecksAreOfManagers, ReadsAreFinished, MessagesKeep, MessagesRest, IsAnswered, RequestsAreAnswered}
-use Rattle.ec_slave.proofs.FirmwareRuns.RestsQuietly.{message-kept, served-al, decided-al, decided-if, decides}
+use Rattle.ec_slave.proofs.FirmwareRuns.RestsQuietly.{message-kept, served-al, decided-al, decided-if, decides, rested, rested_by}
 
 pub three_parts : StepsHaveThreeParts
 unfolding served
@@ -35,16 +38,22 @@ three_parts s = refl
 -- ---- the AL request
 
 pub decided : RequestsAreDecided
-decided s = record {
-  rests = λ e. decided-if s ∙ if_false _ _ _ (and_left s.al.requested _ e);
-  awaits = λ e. decided-if s ∙ if_false _ _ _ (and_right s.al.requested _ (ap not e));
-  decides = λ e f. decided-if s ∙ if_true _ _ _ (and_from _ _ e (ap not f));
-}
+decided s =
+    let slow : Bool = is_slow s.kind.hardware s in
+    let awaits : Bool = is_awaiting s.kind.hardware s in
+    record {
+      rests = λ e. decided-if s ∙ (if_false _ _ _ (and_left s.al.requested _ e) ∙ ap (λ (b : Bool). rested_by b s) (and_left s.al.requested slow e));
+      slow = λ e f. decided-if s ∙ (if_false _ _ _ (and_right s.al.requested _ (and_left (not slow) (not awaits) (ap not f))) ∙ ap (λ (b : Bool). rested_by b s) (and_from s.al.requested slow e f));
+      awaits = λ q e. decided-if s ∙ (if_false _ _ _ (and_right s.al.requested _ (and_right (not slow) (not awaits) (ap not e))) ∙ ap (λ (b : Bool). rested_by b s) (and_right s.al.requested slow q));
+      decides = λ e q f. decided-if s ∙ if_true _ _ _ (and_from _ _ e (and_from (not slow) (not awaits) (ap not q) (ap not f)));
+    }
 
 pub plain_decides : PlainTypesDecide
 plain_decides s e = record {
   decides = ap (λ (o : Option Hardware). al_decided o s) e;
   at_once = ap (λ (o : Option Hardware). is_awaiting o s) e;
+  quick = ap (λ (o : Option Hardware). is_slow o s) e;
+  quiet = λ a. and_left _ _ (ap has_emergency e);
 }
 
 pub checks : ChecksAreOfManagers
@@ -179,6 +188,9 @@ mailed s = elim (cases_Bool (is_served s)) [
   | inl y ↦ Moved y (if_true _ _ _ y)
 ]
 
+abbrev size-of : SdoValue → ℕ
+size-of v = size_number v.size
+
 -- what an answer leaves besides what `Kept` says
 record Left (s t : SlaveState) : Type 0 where
   sii : t.sii ≡ s.sii
@@ -189,8 +201,10 @@ record Left (s t : SlaveState) : Type 0 where
   others : (n : ℕ) → 2 ≤ n → manager_at t.managers n ≡ manager_at s.managers n
   out_slots : length t.outs.slots ≡ length s.outs.slots
   in_slots : length t.ins.slots ≡ length s.ins.slots
+  fixed : is_fixed s.kind.hardware ≡ true → (t.outs ≡ s.outs) × (t.ins ≡ s.ins)
+  sizes : map size-of t.values ≡ map size-of s.values
 
-put-left : (s : SlaveState) (bytes : List ℕ) → Left s (refused (taken_out s) bytes)
+put-left : (s : SlaveState) (bytes : List ℕ) → Left s (sent (taken_out s) bytes)
 put-left s bytes = record {
   sii = refl;
   link = refl;
@@ -202,6 +216,8 @@ put-left s bytes = record {
   others = λ n l. get_or-set_other (taken_out s).managers 1 n (message_put (manager_at (taken_out s).managers 1) bytes) no_manager (λ e. omega (arith, e, l)) ∙ taken-others s n l;
   out_slots = refl;
   in_slots = refl;
+  fixed = λ f. (refl, refl);
+  sizes = refl;
 }
 
 given-left : (s : SlaveState) (f : Option (List ℕ)) (o : Option Message) → Left s (reply_given (taken_out s) f o)
@@ -214,15 +230,28 @@ given-left s None None = record {
   others = taken-others s;
   out_slots = refl;
   in_slots = refl;
+  fixed = λ f. (refl, refl);
+  sizes = refl;
 }
 given-left s (Some bytes) None = put-left s bytes
 given-left s f (Some r) =
     let p = put-left s (bytes_to (taken_out s) r) in
     let q = answered-slots (is_preop s.al.state) (dictionary_of s) r (reply_counter s.replies) in
-    record { sii = refl; link = refl; count = p.count; locked = p.locked; awaited = p.awaited; others = p.others; out_slots = q.outs; in_slots = q.ins }
+    record {
+      sii = refl;
+      link = refl;
+      count = p.count;
+      locked = p.locked;
+      awaited = p.awaited;
+      others = p.others;
+      out_slots = q.outs;
+      in_slots = q.ins;
+      fixed = λ g. let l = fixed_stays (is_preop s.al.state) (dictionary_of s) r (reply_counter s.replies) g in (l.outs, l.ins);
+      sizes = q.sizes;
+    }
 
 mailed-left : (s t : SlaveState) → Mailed s t → Left s t
-mailed-left s t (Unmoved n e) = subst (λ (x : SlaveState). Left s x) (sym e) (record { sii = refl; link = refl; count = refl; locked = λ n. refl; awaited = λ n. refl; others = λ n l. refl; out_slots = refl; in_slots = refl })
+mailed-left s t (Unmoved n e) = subst (λ (x : SlaveState). Left s x) (sym e) (record { sii = refl; link = refl; count = refl; locked = λ n. refl; awaited = λ n. refl; others = λ n l. refl; out_slots = refl; in_slots = refl; fixed = λ f. (refl, refl); sizes = refl })
 mailed-left s t (Moved y e) = subst (λ (x : SlaveState). Left s x) (sym e) (given-left s (refusal_in s) (request_in s))
 
 pub messages_keep : MessagesKeep
@@ -243,6 +272,8 @@ messages_keep s =
       others = l.others;
       out_slots = l.out_slots;
       in_slots = l.in_slots;
+      fixed = l.fixed;
+      sizes = l.sizes;
     }
 
 unserved : (s : SlaveState) → is_served s ≡ false → message_served s ≡ s
@@ -261,7 +292,7 @@ messages_rest s = record {
     none e = if_none (is_enabled (manager_at s.managers 0) && (is_mailbox (manager_at s.managers 0).settings && is_master_written (manager_at s.managers 0).settings)) (manager_at s.managers 0).mail e
 
 -- manager 1 lets the firmware put a reply that fits
-put-right : (m : SyncManager) (message : List ℕ) → length message ≤ m.settings.length → takes_reply m ≡ true → may_put_message m (length message) ≡ true
+pub put-right : (m : SyncManager) (message : List ℕ) → length message ≤ m.settings.length → takes_reply m ≡ true → may_put_message m (length message) ≡ true
 put-right m message e t =
     let a = and_parts (is_enabled m) _ t in
     let b = and_parts (is_mailbox m.settings) _ a.1 in
@@ -286,6 +317,8 @@ given-answers s r l there t room =
       reply = ap (λ (m : SyncManager). m.mail) (get_or-set_same (set s.managers 0 x) 1 y no_manager (let f = length-set s.managers 0 x in omega (arith, f, l))) ∙ put;
       outs = refl;
       ins = refl;
+      values = refl;
+      counter = refl;
     }
 
 pub requests_answered : RequestsAreAnswered
@@ -301,7 +334,7 @@ requests_answered s r l y e room =
 decided-sii : (s : SlaveState) → (request_decided s).sii ≡ s.sii
 decided-sii s = ap (λ (t : SlaveState). t.sii) (decided-if s) ∙ by (decides s)
   where
-    by : (b : Bool) → (let x : SlaveState = if b then with_al s (al_decided s.kind.hardware s) else s in x.sii ≡ s.sii)
+    by : (b : Bool) → (let x : SlaveState = if b then with_al s (al_decided s.kind.hardware s) else rested s in x.sii ≡ s.sii)
     by true = refl
     by false = refl
 
@@ -310,10 +343,22 @@ served-sii s =
     ap (λ (t : SlaveState). t.sii) (three_parts s) ∙ ((messages_keep (read_finished (request_decided s))).sii
     ∙ (ap (λ (t : SlaveState). t.sii) (finished (request_decided s)).is ∙ ap port.stepped (decided-sii s)))
 
-at-once : (b c : Bool) (x y : Al) → c ≡ false → (if b && not c then x else y) ≡ (if b then x else y)
-at-once true true x y e = absurd (false≢true (sym e))
-at-once true false x y e = refl
-at-once false c x y e = refl
+at-once : (b c d : Bool) (x y : Al) → c ≡ false → d ≡ false → (if b && (not c && not d) then x else (if b && c then waiting y else y)) ≡ (if b then x else y)
+at-once true true d x y e f = absurd (false≢true (sym e))
+at-once true false true x y e f = absurd (false≢true (sym f))
+at-once true false false x y e f = refl
+at-once false c d x y e f = refl
+
+at-slow : (b c d : Bool) (x y : Al) → c ≡ true → (if b && (not c && not d) then x else (if b && c then waiting y else y)) ≡ (if b then waiting y else y)
+at-slow true true d x y e = refl
+at-slow true false d x y e = absurd (false≢true e)
+at-slow false c d x y e = refl
+
+while-awaited : (b c d : Bool) (x y : Al) → c ≡ false → d ≡ true → (if b && (not c && not d) then x else (if b && c then waiting y else y)) ≡ y
+while-awaited true true d x y e f = absurd (false≢true (sym e))
+while-awaited true false true x y e f = refl
+while-awaited true false false x y e f = absurd (false≢true f)
+while-awaited false c d x y e f = refl
 
 none-waits : (b : Bool) (x y : Al) → y.requested ≡ b → x.requested ≡ false → requested_of (if b then x else y) ≡ false
 none-waits true x y e f = f
@@ -321,13 +366,16 @@ none-waits false x y e f = e
 
 pub settles : StepsSettle
 settles s =
-    let a : (served s).al ≡ (if decides s then al_decided s.kind.hardware s else s.al) = served-al s ∙ decided-al s in
-    let now : is_awaiting s.kind.hardware s ≡ false → (served s).al ≡ (if s.al.requested then al_decided s.kind.hardware s else s.al)
-    = λ e. a ∙ at-once s.al.requested (is_awaiting s.kind.hardware s) (al_decided s.kind.hardware s) s.al e in
+    let slow : Bool = is_slow s.kind.hardware s in
+    let awaits : Bool = is_awaiting s.kind.hardware s in
+    let a : (served s).al ≡ (if decides s then al_decided s.kind.hardware s else (rested s).al) = served-al s ∙ decided-al s in
+    let now : slow ≡ false → awaits ≡ false → (served s).al ≡ (if s.al.requested then al_decided s.kind.hardware s else s.al)
+    = λ q e. a ∙ at-once s.al.requested slow awaits (al_decided s.kind.hardware s) s.al q e in
     record {
       al = now;
-      no_request = λ e. ap requested_of (now e) ∙ none-waits s.al.requested (al_decided s.kind.hardware s) s.al refl (no-more s.kind.hardware s);
-      awaits = λ e. a ∙ if_false _ _ _ (and_right s.al.requested _ (ap not e));
+      no_request = λ q e. ap requested_of (now q e) ∙ none-waits s.al.requested (al_decided s.kind.hardware s) s.al refl (no-more s.kind.hardware s);
+      awaits = λ q e. a ∙ while-awaited s.al.requested slow awaits (al_decided s.kind.hardware s) s.al q e;
+      slow = λ q. a ∙ at-slow s.al.requested slow awaits (al_decided s.kind.hardware s) s.al q;
       sii = served-sii s;
       idle = ap busy_of (served-sii s) ∙ stepped-idle s.sii;
       image = ap image_of (served-sii s) ∙ stepped-image s.sii;

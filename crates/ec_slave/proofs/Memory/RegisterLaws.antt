@@ -91,6 +91,7 @@ registers_written s w l = record {
   link = refl;
   outs = refl;
   ins = refl;
+  values = refl;
 }
 
 pub registers_read : RegistersAreRead

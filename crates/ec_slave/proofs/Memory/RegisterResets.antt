@@ -3,9 +3,7 @@ use Rattle.std.proofs.Common.{ℕ, ◌+◌, ◌*◌, ◌<◌, ◌≡◌, ◌==�
 use Rattle.ec_bits.proofs.AnyLaws.{any_below_from, any_below_none, if_false, if_true}
 use Rattle.ec_device.specs.declared.hardware.Hardware.{Hardware}
 use Rattle.ec_device.specs.declared.slave_type.Face.{Face}
-use Rattle.ec_device.specs.declared.slave_type.Identity.{Identity}
 use Rattle.ec_device.specs.Hardware.{manager_number, other_name, swapped}
-use Rattle.ec_device.specs.Types.{SlaveKind}
 use Rattle.ec_regs.specs.declared.manager.SyncManagerSettings.{SyncManagerSettings}
 use Rattle.ec_regs.specs.Managers.{no_settings}
 use Rattle.ec_regs.specs.Memory.{takes_writes}
@@ -15,8 +13,8 @@ use Rattle.ec_dl.proofs.StoredRegisters.{plain_hidden}
 use Rattle.ec_sync.specs.SyncManager.{empty_manager}
 use Rattle.ec_sync.specs.Governing.{manager_byte}
 use Rattle.ec_slave.specs.State.{power_on}
-use Rattle.ec_slave.specs.Physical.{Window, as_shown, byte_from, is_missing, may_write_byte, physical_after, setting_for, settings_written, some_byte_written, touches}
-use Rattle.ec_slave.specs.Interface.{ManagersAreCleared, SiiConfigurationIsLeft}
+use Rattle.ec_slave.specs.Physical.{Window, as_shown, byte_from, is_missing, may_write_byte, setting_for, settings_written, some_byte_written, touches}
+use Rattle.ec_slave.specs.Interface.{ManagersAreCleared, SiiConfigurationIsLeft, FreshSlavesAreLeft}
 use Rattle.ec_slave.proofs.Memory.CountsWhatItChanges.{slave-idle}
 use Rattle.ec_slave.proofs.Memory.MissingFmmus.{not-missing}
 use Rattle.ec_slave.proofs.Memory.RegisterLaws.{stored-setting, settings-alike}
@@ -67,7 +65,6 @@ sii_left s x hidden l =
     slave-idle s false true w l refl (ap (λ (b : Bool). b || dl_takes s.link 0x0500 1) some ∙ taken)
 
 -- a slave that was just switched on, and isn't full
-pub on_left : (kind : SlaveKind) (identity : Identity) (x : ℕ) → kind.face ≡ None
-    → physical_after (power_on kind identity) false true (record { from = 0x0500; bytes = x ∷ [] }) ≡ power_on kind identity
+pub on_left : FreshSlavesAreLeft
 unfolding power_on
 on_left kind identity x none = sii_left (power_on kind identity) x (ap (λ (o : Option Face). (new_data_link o).visible) none) (omega arith)

@@ -310,7 +310,7 @@ part_is plan s l =
 -- the row of a slave
 pub row_of : (t : Contents) → link.IsSound t (plan_of t) → (s : ℕ) → s < length (plan_of t).slaves → (row : SlaveRow) × (slice_get t.slaves s ≡ Some row)
 row_of t sound s l =
-    let row : SlaveRow = get_or t.slaves s (record { name = []; type_index = 0; serial = 0; outputs = []; inputs = []; unit = 0 }) in
+    let row : SlaveRow = get_or t.slaves s (record { name = []; type_index = 0; serial = 0; outputs = []; inputs = []; unit = 0; init = [] }) in
     (row, slice_get-get_or t.slaves s _ (let x = sound.as_many in omega (arith, l, x)))
 
 -- its bits are mapped, in as many bytes

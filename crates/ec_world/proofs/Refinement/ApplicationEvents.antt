@@ -7,7 +7,7 @@ use Rattle.ec_device.specs.Hardware.{out_manager, in_manager}
 use Rattle.ec_world.proofs.Refinement.ProcessManagers.{no_bits, unset, third_held, outs_enabled, ins_enabled, locked_denies, fourth_held, still_holds, still_quiet, buffer_long, set_for_outs, buffered_outs}
 
 pub quiet-rests : (s : SlaveState) → IsQuiet s → served s ≡ s
-quiet-rests s q = serves.rests_quietly s (record { no_request = q.no_request; no_read = q.no_read; no_message = q.no_message 0 })
+quiet-rests s q = serves.rests_quietly s (record { no_request = q.no_request; no_read = q.no_read; no_message = q.no_message 0 (λ e. omega (arith, e)) })
 
 -- ---- events of one slave: a firmware step, a byte of its application, a fault, a reset
 
@@ -77,7 +77,7 @@ quiet_on s e =
     let on = switched_on s.kind s.identity in record {
       no_request = ap (λ (x : SlaveState). x.al.requested) e ∙ ap (λ (a : al.Al). a.requested) on.al;
       no_read = ap (λ (x : SlaveState). x.sii.busy) e ∙ ap (λ (p : Sii). p.busy) on.sii;
-      no_message = managers_on s e;
+      no_message = λ n ne. managers_on s e n;
     }
 
 pub quiet : (i : ℕ) (p : SlavePlan) (s : SlaveState) (q : PlainSlave) (x : Health) → IsAs i p s q x → IsQuiet s
@@ -281,7 +281,7 @@ module _ (i : ℕ) (p : SlavePlan) (s : SlaveState) (q : PlainSlave) (fits : Are
       let held : HoldsData p (put_into b) (record q { inputs = b }) = put_data b (written_length (bytes_of_bits p.share.ins) q.inputs k x b w.process.in_bytes e) w.holds w.process in
       search (
         still_holds i p s s.al 3 m refl w.holds,
-        still_quiet s s.al 3 m four refl (w.quiet.no_message 3) w.quiet,
+        still_quiet s s.al 3 m four refl (w.quiet.no_message 3 (λ e. omega (arith, e))) w.quiet,
         held,
         second,
         free,
@@ -298,7 +298,7 @@ module _ (i : ℕ) (p : SlavePlan) (s : SlaveState) (q : PlainSlave) (fits : Are
       = assumption (ap (λ (x : SyncManager). x.buffer) own, ap (λ (x : SyncManager). x.buffer) other ∙ w.process.inputs, read_length (bytes_of_bits p.share.outs) q.outputs k g w.process.out_bytes e) in
       assumption (
         still_holds i p s s.al 2 m refl w.holds,
-        still_quiet s s.al 2 m (omega arith) refl (w.quiet.no_message 2) w.quiet,
+        still_quiet s s.al 2 m (omega arith) refl (w.quiet.no_message 2 (λ e. omega (arith, e))) w.quiet,
         held,
         ap (λ (x : SyncManager). x.locked) own ∙ w.out_unlocked,
         ap (λ (x : SyncManager). x.awaited) own ∙ w.out_free,

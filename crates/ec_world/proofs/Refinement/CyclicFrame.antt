@@ -191,7 +191,7 @@ module _ (plan : PlanState) (t : ℕ) (f : PlainFrame) (q : PlainSlave) (s : Sla
       = assumption (ap (λ (x : SyncManager). x.buffer) own ∙ ap (λ b. publishing b v) w.process.outputs, ap (λ (x : SyncManager). x.buffer) fourth ∙ w.process.inputs, bytes) in
       assumption (
         still_holds t pl s s.al 2 m refl w.holds,
-        still_quiet s s.al 2 m l refl (w.quiet.no_message 2) w.quiet,
+        still_quiet s s.al 2 m l refl (w.quiet.no_message 2 (λ e. omega (arith, e))) w.quiet,
         held,
         ap (λ (x : SyncManager). x.locked) own ∙ w.out_unlocked,
         ap (λ (x : SyncManager). x.awaited) own,

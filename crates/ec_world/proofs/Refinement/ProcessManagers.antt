@@ -1,8 +1,8 @@
 -- The sync managers of process data, as a plan sets them.
-use Rattle.ec_world.proofs.Words.{ℕ, ◌+◌, ◌*◌, ◌<◌, ◌≡◌, ◌&&◌, not, true, false, Some, refl, ◌∙◌, ap, arith, if◌then◌else◌, List, [], ◌∷◌, map, Bool, Option, sym, subst, inl, inr, length, get_or, position_from, and_from, and_left, and_right, ne_eqb, eq-eqb, cases_Bool, both_ways, bytes_of_bits, if_true, if_false, within_true, SyncManagerSettings, no_settings, is_set, is_mailbox, span, SyncManager, may_read, may_write, may_app_put, may_app_get, no_manager, governs, governor, process_manager, has_byte, FitsRam, AreListed, output_manager, input_manager, get_or-map, length-map, no_fmmu, target, source, readers, writers, read_set_is_run, write_set_is_run, SlaveState, manager_at, fmmus, IsMapped, IsBufferAt, SlavePlan, area_of, link_fmmu_of as fmmu_of, Holds, is_buffered, buffer_length, cases_lt, Al, map-set_same, None, IsQuiet, cases_eq, get_or-set_same, get_or-set_other, set, ◌/◌, ◌%◌}
+use Rattle.ec_world.proofs.Words.{ℕ, ◌+◌, ◌*◌, ◌<◌, ◌≡◌, ◌≢◌, ◌&&◌, not, true, false, Some, refl, ◌∙◌, ap, arith, if◌then◌else◌, List, [], ◌∷◌, map, Bool, Option, sym, subst, inl, inr, length, get_or, position_from, and_from, and_left, and_right, ne_eqb, eq-eqb, cases_Bool, both_ways, bytes_of_bits, if_true, if_false, within_true, SyncManagerSettings, no_settings, is_set, is_mailbox, span, SyncManager, may_read, may_write, may_app_put, may_app_get, no_manager, governs, governor, process_manager, has_byte, FitsRam, AreListed, output_manager, input_manager, get_or-map, length-map, no_fmmu, target, source, readers, writers, read_set_is_run, write_set_is_run, SlaveState, manager_at, fmmus, IsMapped, IsBufferAt, SlavePlan, area_of, link_fmmu_of as fmmu_of, Holds, is_buffered, buffer_length, cases_lt, Al, map-set_same, None, IsQuiet, cases_eq, get_or-set_same, get_or-set_other, set, ◌/◌, ◌%◌}
 use Rattle.ec_regs.specs.Managers.{is_master_written, is_master_read}
 use Rattle.ec_device.specs.Hardware.{out_manager, in_manager}
-use Rattle.ec_link.proofs.ManagersApart.{buffer_set, no_box, of_outputs, of_inputs}
+use Rattle.ec_link.proofs.ManagersApart.{process_data_is_buffered}
 
 -- set for so many bits
 abbrev pub for_bits : ℕ → ℕ → ℕ → SyncManagerSettings
@@ -16,10 +16,10 @@ no_bits bits start control e = if_true _ _ _ (eq-eqb bits 0 e)
 
 -- by the modes of outputs and of inputs
 pub set_for_outs : (bits start control : ℕ) → control % 16 ≡ 4 → 0 < bits → FitsRam bits start → is_set (for_bits bits start control) ≡ true
-set_for_outs bits start control mode l fits = let f = fits l in buffer_set start (bytes_of_bits bits) control (of_outputs control mode) (omega (arith, l)) f.0 f.1
+set_for_outs bits start control mode l fits = let f = fits l in process_data_is_buffered.set start (bytes_of_bits bits) control (process_data_is_buffered.outputs control mode) (omega (arith, l)) f.0 f.1
 
 pub set_for_ins : (bits start control : ℕ) → control % 16 ≡ 0 → 0 < bits → FitsRam bits start → is_set (for_bits bits start control) ≡ true
-set_for_ins bits start control mode l fits = let f = fits l in buffer_set start (bytes_of_bits bits) control (of_inputs control mode) (omega (arith, l)) f.0 f.1
+set_for_ins bits start control mode l fits = let f = fits l in process_data_is_buffered.set start (bytes_of_bits bits) control (process_data_is_buffered.inputs control mode) (omega (arith, l)) f.0 f.1
 
 pub buffered_outs : (bits start control : ℕ) → control % 16 ≡ 4 → is_buffered (for_bits bits start control) ≡ true
 buffered_outs bits start control mode = eq-eqb (control % 4) 0 (omega (arith, mode))
@@ -59,7 +59,7 @@ outs_enabled m bits start control mode l fits e u =
     let same : m.settings ≡ for_bits bits start control = e ∙ some_bits bits start control l in
     let on : (is_set m.settings && not m.locked) ≡ true = and_from _ _ (ap is_set same ∙ set_for_outs bits start control mode l fits) (ap not u) in
     let written : is_master_written m.settings ≡ true = ap is_master_written same ∙ eq-eqb (control / 4 % 4) 1 (omega (arith, mode)) in
-    let box : is_mailbox m.settings ≡ false = ap is_mailbox same ∙ no_box control (omega (arith, mode)) in
+    let box : is_mailbox m.settings ≡ false = ap is_mailbox same ∙ process_data_is_buffered.no_mailbox start (bytes_of_bits bits) control (process_data_is_buffered.outputs control mode) in
     (and_from _ _ on (and_from _ _ written (if_false _ _ _ box)), and_from _ _ on (and_from _ _ (ap is_buffered same ∙ buffered_outs bits start control mode) written))
 
 pub ins_enabled : (m : SyncManager) (bits start control : ℕ) → control % 16 ≡ 0 → 0 < bits → FitsRam bits start → m.settings ≡ process_manager start bits control → m.locked ≡ false → (may_read m ≡ true) × (may_app_put m ≡ true)
@@ -67,7 +67,7 @@ ins_enabled m bits start control mode l fits e u =
     let same : m.settings ≡ for_bits bits start control = e ∙ some_bits bits start control l in
     let on : (is_set m.settings && not m.locked) ≡ true = and_from _ _ (ap is_set same ∙ set_for_ins bits start control mode l fits) (ap not u) in
     let read : is_master_read m.settings ≡ true = ap is_master_read same ∙ eq-eqb (control / 4 % 4) 0 (omega (arith, mode)) in
-    let box : is_mailbox m.settings ≡ false = ap is_mailbox same ∙ no_box control (omega (arith, mode)) in
+    let box : is_mailbox m.settings ≡ false = ap is_mailbox same ∙ process_data_is_buffered.no_mailbox start (bytes_of_bits bits) control (process_data_is_buffered.inputs control mode) in
     (and_from _ _ on (and_from _ _ read (if_false _ _ _ box)), and_from _ _ on (and_from _ _ (ap is_buffered same ∙ buffered_ins bits start control mode) read))
 
 -- a locked manager denies
@@ -99,10 +99,10 @@ pub still_quiet : (s : SlaveState) (a : Al) (n : ℕ) (m : SyncManager) → n < 
     → IsQuiet (record s { al = a; managers = set s.managers n m })
 still_quiet s a n m l same none q = assumption (same ∙ q.no_request, mail)
   where
-    mail : (k : ℕ) → (manager_at (set s.managers n m) k).mail ≡ None
-    mail k = elim (cases_eq k n) [
+    mail : (k : ℕ) → k ≢ 1 → (manager_at (set s.managers n m) k).mail ≡ None
+    mail k other = elim (cases_eq k n) [
       | inl e ↦ ap (λ (j : ℕ). (manager_at (set s.managers n m) j).mail) e ∙ (ap (λ (x : SyncManager). x.mail) (get_or-set_same s.managers n m no_manager l) ∙ none)
-      | inr ne ↦ ap (λ (x : SyncManager). x.mail) (get_or-set_other s.managers n k m no_manager ne) ∙ q.no_message k
+      | inr ne ↦ ap (λ (x : SyncManager). x.mail) (get_or-set_other s.managers n k m no_manager ne) ∙ q.no_message k other
     ]
 
 has_own : (bits start control k : ℕ) → is_set (for_bits bits start control) ≡ true → k < bytes_of_bits bits → has_byte (for_bits bits start control) (start + k) ≡ true
@@ -148,7 +148,7 @@ holds_mapped i p s h a =
           let own = outs_own k l in
           of b ∙ third_governs m0 m1 m2 m3 b (below 0 2 b (omega arith) (omega arith) own) (below 1 2 b (omega arith) (omega arith) own) own;
       in_buffer = λ l. subst (λ (m : SyncManagerSettings). IsBufferAt m p.kind.in_start (bytes_of_bits p.share.ins)) (sym (held 3 ∙ some_bits p.share.ins p.kind.in_start ic l))
-          (let f = a.in_fits l in let z = a.in_mode in record { start_is = refl; length_is = refl; no_mailbox = no_box ic (omega (arith, z)); from_ram = f.0; to_ram = let x = f.1 in omega arith });
+          (let f = a.in_fits l in let z = a.in_mode in record { start_is = refl; length_is = refl; no_mailbox = process_data_is_buffered.no_mailbox p.kind.in_start (bytes_of_bits p.share.ins) ic (process_data_is_buffered.inputs ic z); from_ram = f.0; to_ram = let x = f.1 in omega arith });
       out_buffer = λ l. subst (λ (m : SyncManagerSettings). IsBufferAt m p.kind.out_start (bytes_of_bits p.share.outs)) (sym (held 2 ∙ some_bits p.share.outs p.kind.out_start oc l))
-          (let f = a.out_fits l in let z = a.out_mode in record { start_is = refl; length_is = refl; no_mailbox = no_box oc (omega (arith, z)); from_ram = f.0; to_ram = let x = f.1 in omega arith });
+          (let f = a.out_fits l in let z = a.out_mode in record { start_is = refl; length_is = refl; no_mailbox = process_data_is_buffered.no_mailbox p.kind.out_start (bytes_of_bits p.share.outs) oc (process_data_is_buffered.outputs oc z); from_ram = f.0; to_ram = let x = f.1 in omega arith });
     }

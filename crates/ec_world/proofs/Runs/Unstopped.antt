@@ -1,13 +1,13 @@
 -- Only a stop changes the start-up of a Ready world.
-use Rattle.ec_world.proofs.Words.{ℕ, suc, ◌+◌, ◌*◌, ◌<◌, ◌≤◌, ◌≡◌, ◌==◌, ◌&&◌, ◌⊎◌, not, Bool, true, false, refl, sym, ◌∙◌, ap, subst, inl, inr, arith, if◌then◌else◌, List, [], ◌∷◌, length, is_some, list_all, unwrap_or, cases_Bool, and_parts, false≢true, true≢false, Phase, Idle, Sent, Ready, Failed, StartState, IsStartTaken, IsOutstanding, begun, sending, given_up_by, action_of, name_datagram, datagram_of, MasterState, Event, StartNext, Begin, Pass, Return, Close, AppPut, AppGet, Stop, Meaning, Plain, step, run, WorldState, IsStep, Happens, can_happen, awaits, is_up, phase_awaits, phase_ready, resumed, stopped, ByStart, StartReturns, Returns, GivesUp, Closes, IsRun, IsMade, UnstoppedLaw}
+use Rattle.ec_world.proofs.Words.{ℕ, suc, ◌+◌, ◌*◌, ◌<◌, ◌≤◌, ◌≡◌, ◌==◌, ◌&&◌, ◌⊎◌, not, Bool, true, false, refl, sym, ◌∙◌, ap, subst, inl, inr, arith, if◌then◌else◌, List, [], ◌∷◌, length, is_some, list_all, unwrap_or, cases_Bool, and_parts, false≢true, true≢false, Some, Phase, Idle, Sent, Ready, Failed, StartState, IsStartTaken, IsOutstanding, begun, sending, given_up_by, action_of, name_datagram, datagram_of, MasterState, Event, StartNext, Begin, Pass, Return, Close, AppPut, AppGet, Stop, Meaning, Plain, step, run, WorldState, IsStep, Happens, can_happen, awaits, is_up, phase_awaits, phase_ready, resumed, stopped, ByStart, StartReturns, Returns, GivesUp, Closes, IsRun, IsMade, UnstoppedLaw}
 use Rattle.std.specs.Prelude.{max}
 use Rattle.std.proofs.Math.Nat.{le-max_left}
 use Rattle.std.specs.List.{Contains}
-use Rattle.ec_start.specs.Running.{judged, type_of, max_polls}
+use Rattle.ec_start.specs.Running.{polled, judged, type_of, max_polls}
 use Rattle.ec_start.specs.Verdicts.{verdict}
 use Rattle.ec_start.specs.declared.error.StartError.TheVariants.{TooSlow}
 use Rattle.ec_start.specs.declared.verdict.Verdict.{Verdict}
-use Rattle.ec_start.specs.declared.verdict.Verdict.TheVariants.{Again}
+use Rattle.ec_start.specs.declared.verdict.Verdict.TheVariants.{Again, Aside}
 use Rattle.ec_world.proofs.Runs.OneOutcomeLaw.{second_there}
 
 -- ---- how far a start-up is
@@ -41,8 +41,12 @@ unfolding begun
 resumed_next s (Failed failure) = refl
 resumed_next s _ = refl
 
+polled_next : (s : StartState) → (polled s).next ≡ s.next
+polled_next s = elim (s.polls + 1 == max_polls) as (λ b. (let t : StartState = if b then record s { phase = Failed (TooSlow s.place) } else record s { fed = 0; polls = s.polls + 1; phase = Idle } in t.next) ≡ s.next) [ true ↦ refl | false ↦ refl ]
+
 judged_next : (s : StartState) (v : Verdict) → (judged s v).next ≡ s.next
-judged_next s Again = elim (s.polls + 1 == max_polls) as (λ b. (let t : StartState = if b then record s { phase = Failed (TooSlow s.place) } else record s { fed = 0; polls = s.polls + 1; phase = Idle } in t.next) ≡ s.next) [ true ↦ refl | false ↦ refl ]
+judged_next s Again = polled_next s
+judged_next s (Aside heard) = polled_next (record s { heard = Some heard })
 judged_next s _ = refl
 
 pub taken_next : (s t : StartState) (payload : List ℕ) (is_accepted : Bool) → IsStartTaken s payload is_accepted t → t.next ≡ s.next

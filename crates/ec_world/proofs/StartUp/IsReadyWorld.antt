@@ -1,5 +1,5 @@
 -- A world whose start-up is ready refines a plain state.
-use Rattle.ec_world.proofs.Words.{ℕ, zero, suc, ◌<◌, ◌≡◌, ◌⊎◌, Bool, true, false, Option, Some, None, refl, sym, ◌∙◌, ap, subst, inl, inr, arith, List, [], ◌∷◌, length, map, get_or, option_map, get_or-map as get_or-mapped, ext_get_or, get_or_past, list_get_or-map as get_or-map, length-map, length-replicate, bytes_of_bits, no_settings, no_fmmu, Identity, SlaveKind, Buffer, emptied_buffer, SyncManager, no_manager, buffer_length, switched_on, SlaveState, manager_at, power_on, SlavePlan, slave_at as settings_of, AreListed, input_manager, IsUsable, listed, IsStartable, end_of, Phase, Ready, IsOfKind, unviewed, Config, OpenCycle, fmmus-held, Starting, trouble_at, no_plan, kind_at, Starts, Between, UnderWay, Feeding, Adrift, Over, IsReady, AreStartable, ends_of, HoldsAll, SlaveHealth, ready-shown, PlainSlave, Health, Working, Faulted, Reset, no_plain_slave, plain_slave, all_progress, WorldState, Flight, no_slave, slave_of, flights_progress, is_up, phase_ready, phase_awaits, Holds, IsQuiet, HoldsData, IsAs, SlaveRefines, CyclesRefine, said, IsFit, SlotsHold, starting_of, Rising, health_of, plain_slave_of, plain_of, ShowsZeros, IsReadyWorld, none_some, PlainFrame, FrameRefines, ReportRefines, flight_at}
+use Rattle.ec_world.proofs.Words.{ℕ, zero, suc, ◌<◌, ◌≡◌, ◌≢◌, ◌⊎◌, Bool, true, false, Option, Some, None, refl, sym, ◌∙◌, ap, subst, inl, inr, arith, List, [], ◌∷◌, length, map, get_or, option_map, get_or-map as get_or-mapped, ext_get_or, get_or_past, list_get_or-map as get_or-map, length-map, length-replicate, bytes_of_bits, no_settings, no_fmmu, Identity, SlaveKind, Buffer, emptied_buffer, SyncManager, no_manager, buffer_length, switched_on, SlaveState, manager_at, power_on, SlavePlan, slave_at as settings_of, AreListed, input_manager, IsUsable, listed, IsStartable, end_of, Phase, Ready, IsOfKind, unviewed, Config, OpenCycle, fmmus-held, Starting, trouble_at, no_plan, kind_at, Starts, Between, UnderWay, Feeding, Adrift, Over, IsReady, AreStartable, ends_of, HoldsAll, SlaveHealth, ready-shown, PlainSlave, Health, Working, Faulted, Reset, no_plain_slave, plain_slave, all_progress, WorldState, Flight, no_slave, slave_of, flights_progress, is_up, phase_ready, phase_awaits, Holds, IsQuiet, HoldsData, IsAs, SlaveRefines, CyclesRefine, said, IsFit, SlotsHold, starting_of, Rising, health_of, plain_slave_of, plain_of, ShowsZeros, IsReadyWorld, none_some, PlainFrame, FrameRefines, ReportRefines, flight_at}
 use Rattle.ec_bringup.specs.Runs as rise
 use Rattle.ec_world.proofs.Refinement.ProcessManagers.{third_held, fourth_held, buffer_long, set_for_ins, buffered_ins}
 use Rattle.ec_device.specs.Hardware.{in_manager}
@@ -35,12 +35,12 @@ module _ (i : ℕ) (p : SlavePlan) (s : SlaveState) (listed : AreListed p) (good
         inputs = h.ins;
       }
 
-  no-mail : HoldsAll i p s → (n : ℕ) → (manager_at s.managers n).mail ≡ None
-  no-mail h zero = h.silent.no_message
-  no-mail h (suc zero) = h.silent.no_reply
-  no-mail h (suc (suc zero)) = h.configured.no_messages 2 (omega arith) (omega arith)
-  no-mail h (suc (suc (suc zero))) = h.configured.no_messages 3 (omega arith) (omega arith)
-  no-mail h (suc (suc (suc (suc n)))) = ap (λ (m : SyncManager). m.mail) (get_or_past s.managers (suc (suc (suc (suc n)))) no_manager (omega (arith, slave.four)))
+  no-mail : HoldsAll i p s → (n : ℕ) → n ≢ 1 → (manager_at s.managers n).mail ≡ None
+  no-mail h zero ne = h.silent.no_message
+  no-mail h (suc zero) ne = absurd (ne refl)
+  no-mail h (suc (suc zero)) ne = h.configured.no_messages 2 (omega arith) (omega arith)
+  no-mail h (suc (suc (suc zero))) ne = h.configured.no_messages 3 (omega arith) (omega arith)
+  no-mail h (suc (suc (suc (suc n)))) ne = ap (λ (m : SyncManager). m.mail) (get_or_past s.managers (suc (suc (suc (suc n)))) no_manager (omega (arith, slave.four)))
 
   quiet-of : HoldsAll i p s → s.al.requested ≡ false → IsQuiet s
   quiet-of h e = record { no_request = e; no_read = h.no_read; no_message = no-mail h }

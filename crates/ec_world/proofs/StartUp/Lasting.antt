@@ -2,6 +2,7 @@
 use Rattle.ec_world.proofs.Words.{ℕ, ◌<◌, ◌≡◌, Bool, true, false, Option, Some, refl, sym, ◌∙◌, ap, subst, inl, inr, List, [], ◌∷◌, length, get_or, set, unwrap_or, length-set, and_parts, State, Op, Datagram, SlaveKind, SlaveState, slave_met, passes, input_put, output_got, output_taken, Got, served, faulted, power_on, IsFit, SlavePlan, kind_at, plan_at, IsOfKind, IsGenuine, AreGenuine, stays, Event, StartNext, Begin, Pass, Return, Close, Set, Lose, Serve, AppPut, AppGet, Fault, ResetSlave as Reset, Stop, WorldState, no_slave, slave_of, is_slave, awaits, can_happen, Happens, IsStep, IsRun, ByStart, StartReturns, Returns, GivesUp, Closes}
 use Rattle.ec_al.specs.Al as al
 use Rattle.ec_bringup.specs.Stages.{Before}
+use Rattle.ec_bringup.specs.Dictionaries.{sizes_of}
 use Rattle.ec_bringup.specs.Standing.{Stands}
 use Rattle.ec_bringup.specs.Keeping.{StaysStanding}
 use Rattle.ec_slave.specs.Interface.{Assignment, all_assigned, is_missing}
@@ -45,6 +46,7 @@ kind_met kind s d h =
         outs = k.outs ∙ (f.outs ∙ ap (λ (x : SlaveKind). all_assigned x.outputs) (sym k.kind));
         ins = k.ins ∙ (f.ins ∙ ap (λ (x : SlaveKind). all_assigned x.inputs) (sym k.kind));
       };
+      sizes = ap sizes_of k.values ∙ h.sizes;
       unlocked_in_init = λ e n l. k.locked n ∙ h.unlocked_in_init (sym k.state ∙ e) n l;
       missing = λ a e. k.missing a (ap (λ (x : SlaveKind). is_missing x.hardware a) h.kind_is ∙ e) ∙ h.missing a e;
     }

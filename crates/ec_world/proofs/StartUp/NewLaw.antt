@@ -1,5 +1,5 @@
 -- From a new world, and after a failure, a start-up that nothing disturbs ends Ready.
-use Rattle.ec_world.proofs.Words.{ℕ, zero, suc, ◌<◌, ◌≡◌, refl, sym, ◌∙◌, ap, arith, List, [], ◌∷◌, length, get_or, None, ◌+◌, ◌⊎◌, true, false, if◌then◌else◌, Option, subst, inl, inr, ◌++◌, replicate, Identity, SlavePlan, plan_of, PlanState, plan_sound, BringupRising as Rising, turns, stay, of-types, with-types, Contents, IsTurn, AreTurns, BringUp, IsToStart, IsBroughtUp, NewLaw, MachineLaw, rising_of, append-nil, length-append, SlaveState, plan_usable, MasterState, readied, cycle_limit, StartError, Phase, Idle, Ready, Failed, script, StartState, Feed, feeds_of, frames_of, begun, IsUpAndWorks, AreStartable, are-plans, compiled-up, Event, WorldState, Flight, flight_at, phase_ready, phase_awaits, is_up, awaits, resumed, ready_with, IsRun, IsNew, new_world, all_none, none_free}
+use Rattle.ec_world.proofs.Words.{ℕ, zero, suc, ◌<◌, ◌≡◌, refl, sym, ◌∙◌, ap, arith, List, [], ◌∷◌, length, get_or, None, ◌+◌, ◌-◌, ◌⊎◌, true, false, if◌then◌else◌, Option, subst, inl, inr, ◌++◌, replicate, Identity, SlavePlan, plan_of, PlanState, plan_sound, BringupRising as Rising, turns, stay, of-types, with-types, Contents, IsTurn, AreTurns, BringUp, IsToStart, IsBroughtUp, NewLaw, MachineLaw, rising_of, append-nil, length-append, SlaveState, plan_usable, MasterState, readied, cycle_limit, StartError, Phase, Idle, Ready, Failed, StartState, Feed, feeds_of, frames_up, frames_to_ready, frames-few, begun, IsUpAndWorks, AreStartable, are-plans, compiled-up, Event, WorldState, Flight, flight_at, phase_ready, phase_awaits, is_up, awaits, resumed, ready_with, IsRun, IsNew, new_world, all_none, none_free}
 use Rattle.ec_world.proofs.StartUp.ScriptFits.{script_fits}
 use Rattle.ec_world.proofs.Runs.Sizes.{run_same}
 use Rattle.ec_world.proofs.StartUp.WholeLaw.{StillRises, still_rises, new-rises, new-low, new-holds}
@@ -97,13 +97,9 @@ turns_all (suc k) n w s es v made m are h =
 
 -- ---- from where
 
-one_more : (n : ℕ) → (k : ℕ) × (1 + n ≡ suc k)
-one_more n = (n, omega arith)
-
--- a script begins with an action before which no part is fed
-some_script : (fs : List Feed) (ps : List SlavePlan) → (k : ℕ) × (frames_of fs (script ps) ≡ suc k)
-some_script fs [] = one_more 0
-some_script fs (p ∷ ps) = one_more _
+-- a start-up takes a frame at least: the one that counts the slaves
+some_frame : (n : ℕ) → 0 < n → (k : ℕ) × (n ≡ suc k)
+some_frame n some = (n - 1, omega (arith, some))
 
 pub free_slots : (n : ℕ) (os : List (Option Flight)) → length os ≡ n → ((k : ℕ) → get_or os k None ≡ None) → os ≡ replicate n None
 free_slots n os e h = all_none os h ∙ ap (λ m. replicate m None) e
@@ -146,11 +142,11 @@ risen t w s low =
 -- what holds where a start-up is to begin
 pub record IsBeginning (t : Contents) (w : WorldState) : Type 0 where
   pub k : ℕ
-  pub long : frames_of (feeds_of (plan_of t)) (script (plan_of t).slaves) ≡ suc k
+  pub long : frames_to_ready t w ≡ suc k
   pub turns_left : MayTurn k 63 w (begun (plan_of t).slaves (feeds_of (plan_of t)) w.start.next)
   pub many : length w.slaves ≡ length t.slaves
   pub no_cycle : w.master.cycle ≡ None
-  pub up : IsUpAndWorks (plan_of t).slaves (w.start.next + frames_of (feeds_of (plan_of t)) (script (plan_of t).slaves)) (turns (suc k) (from_state (begun (plan_of t).slaves (feeds_of (plan_of t)) w.start.next) w.slaves))
+  pub up : IsUpAndWorks (plan_of t).slaves (w.start.next + frames_to_ready t w) (turns (suc k) (from_state (begun (plan_of t).slaves (feeds_of (plan_of t)) w.start.next) w.slaves))
 
 pub beginning : (t : Contents) (w : WorldState) → IsToStart t w → IsBeginning t w
 beginning t w s =
@@ -160,12 +156,12 @@ beginning t w s =
     let a : IsAnew w ps fs = anew w ps fs s.begins in
     let r : StillRises ps (new_world (plan_of t) s.identities) w = risen t w s a.not_up in
     let from : ℕ = w.start.next in
-    let up = compiled-up t new.sound new.accepted from w.slaves (stay ps w.slaves r.devices).devices in
-    let k = some_script fs ps in
+    let up = compiled-up t new.sound new.accepted s.agree from w.slaves (stay ps w.slaves r.devices).devices in
+    let k = some_frame (frames_up ps fs w.slaves) (frames-few ps fs (are-plans t new.sound new.accepted).plans w.slaves).0 in
     let long = k.1 in
     let room = s.numbers in
-    let works : IsUpAndWorks ps (from + frames_of fs (script ps)) (turns (suc k.0) (from_state (begun ps fs from) w.slaves))
-    = subst (λ (m : ℕ). IsUpAndWorks ps (from + frames_of fs (script ps)) (turns m (from_state (begun ps fs from) w.slaves))) long up.0 in
+    let works : IsUpAndWorks ps (from + frames_up ps fs w.slaves) (turns (suc k.0) (from_state (begun ps fs from) w.slaves))
+    = subst (λ (m : ℕ). IsUpAndWorks ps (from + frames_up ps fs w.slaves) (turns m (from_state (begun ps fs from) w.slaves))) long up.0 in
     record {
       k = k.0;
       long = long;
@@ -189,7 +185,7 @@ beginning t w s =
 high_master : (m : MasterState) (x : StartState) → is_up x ≡ true → ready_with m x ≡ readied m x.next
 high_master m x e = rw e refl
 
-pub comes_up : (t : Contents) (w : WorldState) → IsToStart t w → (events : List Event) (v : WorldState) (made : ℕ) → BringUp t events → IsRun w events v made → IsBroughtUp t w events v made
+pub comes_up : (t : Contents) (w : WorldState) → IsToStart t w → (events : List Event) (v : WorldState) (made : ℕ) → BringUp t w events → IsRun w events v made → IsBroughtUp t w events v made
 comes_up t w s events v made are h =
     let ps : List SlavePlan = (plan_of t).slaves in
     let fs : List Feed = feeds_of (plan_of t) in
@@ -198,7 +194,7 @@ comes_up t w s events v made are h =
     let turned : HaveTurned (suc b.k) 63 w (begun ps fs from) events v made
     = turns_all b.k 63 w (begun ps fs from) events v made b.turns_left
     (subst (λ (m : ℕ). AreTurns m (suc b.k) events) (sym b.many) (subst (λ (m : ℕ). AreTurns (length t.slaves) m events) b.long are)) h in
-    let works : IsUpAndWorks ps (from + frames_of fs (script ps)) (rising_of v) = subst (IsUpAndWorks ps (from + frames_of fs (script ps))) (sym turned.is) b.up in
+    let works : IsUpAndWorks ps (from + frames_up ps fs w.slaves) (rising_of v) = subst (IsUpAndWorks ps (from + frames_up ps fs w.slaves)) (sym turned.is) b.up in
     let now : is_up v.start ≡ true = ap (λ (p : Phase). phase_ready p) works.ready in
     let master : v.master ≡ readied w.master v.start.next = turned.master ∙ high_master w.master v.start now in
     record {
@@ -219,20 +215,21 @@ new_next t identities w n = ap (λ (x : WorldState). x.start.next) n.is
 
 pub new_law : NewLaw
 unfolding begun
-new_law t identities w n d = record {
+new_law t identities w n d agree = record {
   identities = identities;
   first = w;
   new = n;
   devices = d;
+  agree = agree;
   events = [];
   made = 0;
   reached = (refl, refl);
   no_frame = λ k. ap (λ (x : WorldState). flight_at x k) n.is ∙ none_free 64 k;
   begins = inl (ap (λ (x : WorldState). x.start) n.is ∙ ap (λ (k : ℕ). begun (plan_of t).slaves (feeds_of (plan_of t)) k) (sym (ap (λ (x : WorldState). x.start.next) n.is)));
-  numbers = let fits = script_fits t n.sound n.accepted in let z : w.start.next ≡ 0 = ap (λ (x : WorldState). x.start.next) n.is in omega (arith, fits, z);
+  numbers = let fits = script_fits t n.sound n.accepted w.slaves in let z : w.start.next ≡ 0 = ap (λ (x : WorldState). x.start.next) n.is in omega (arith, fits, z);
 }
 
 -- ---- a world of a machine
 
 pub machine_law : MachineLaw
-machine_law t w m = new_law t m.identities w m.new (of-types t m.new.sound m.new.accepted m.identities m.shown)
+machine_law t w m agree = new_law t m.identities w m.new (of-types t m.new.sound m.new.accepted m.identities m.shown) agree

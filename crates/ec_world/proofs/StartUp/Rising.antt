@@ -5,7 +5,7 @@ use Rattle.ec_world.proofs.SlotLaws.Clearance.{at_set}
 use Rattle.ec_frame.specs.Datagram.{Datagram}
 use Rattle.ec_start.specs.declared.error.StartError.TheVariants.{TooSlow}
 use Rattle.ec_start.specs.declared.verdict.Verdict.{Verdict}
-use Rattle.ec_start.specs.declared.verdict.Verdict.TheVariants.{Next, Word, Fed, Again, Fails}
+use Rattle.ec_start.specs.declared.verdict.Verdict.TheVariants.{Next, Word, Fed, Again, Aside, Fails}
 use Rattle.ec_start.specs.Verdicts.{verdict}
 use Rattle.ec_start.specs.Running.{judged, type_of}
 use Rattle.ec_al.specs.Al as al
@@ -24,6 +24,7 @@ judged-same s Next = record { plan = refl; feeds = refl }
 judged-same s (Word value) = record { plan = refl; feeds = refl }
 judged-same s Fed = record { plan = refl; feeds = refl }
 judged-same s Again = again-same s (s.polls + 1 == 1000)
+judged-same s (Aside heard) = let h = again-same (record s { heard = Some heard }) (s.polls + 1 == 1000) in record { plan = h.plan; feeds = h.feeds }
 judged-same s (Fails error) = record { plan = refl; feeds = refl }
 
 taken-same : (s : StartState) (d : Datagram) → HasSamePlan s (taken s d)

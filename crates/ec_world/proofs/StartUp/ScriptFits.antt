@@ -1,5 +1,6 @@
 -- A start-up of a table that `compile` accepts never spends the numbers of frames: its script is too short for that.
-use Rattle.ec_world.proofs.Words.{ℕ, ◌+◌, ◌*◌, ◌<◌, ◌≤◌, ◌≡◌, ◌==◌, Bool, true, false, List, [], ◌∷◌, if◌then◌else◌, length, None, arith, Contents, compile_fault, plan_of, PlanState, plan_sound, plan_usable, script, scripts_are_short, are-plans, cycle_limit, Feed, Action, is_fed, is_hardware, feeds_of, feeds_from, frames_of}
+use Rattle.ec_world.proofs.Words.{ℕ, ◌+◌, ◌*◌, ◌<◌, ◌≤◌, ◌≡◌, ◌==◌, Bool, true, false, List, [], ◌∷◌, if◌then◌else◌, length, SlaveState, None, arith, Contents, compile_fault, plan_of, PlanState, plan_sound, plan_usable, script, scripts_are_short, are-plans, cycle_limit, is_hardware, feeds_of, feeds_from, frames_up, frames-few}
+use Rattle.std.proofs.Math.Nat.{mul-le-mul_right}
 use Rattle.ec_link.specs.declared.plan.PartPlan.{PartPlan}
 use Rattle.ec_link.specs.Plan.{predicted_of}
 use Rattle.ec_start.specs.Feeding.{feed_over}
@@ -23,20 +24,14 @@ few_feeds p =
       | false ↦ omega arith
     ]
 
--- each action takes at most one frame more than there are parts
-few-frames : (fs : List Feed) (xs : List Action) → length fs ≤ 32 → frames_of fs xs ≤ 33 * length xs
-few-frames fs [] l = omega arith
-few-frames fs (a ∷ xs) l =
-    let rest = few-frames fs xs l in
-    elim (is_fed a) as (λ (b : Bool). (if b then length fs + 1 else 1) + frames_of fs xs ≤ 33 * length (a ∷ xs)) [
-      | true ↦ omega (arith, l, rest)
-      | false ↦ omega (arith, rest)
-    ]
-
-pub script_fits : (t : Contents) → table.IsSound t → compile_fault t ≡ None → frames_of (feeds_of (plan_of t)) (script (plan_of t).slaves) < cycle_limit
-script_fits t sound free =
+-- whatever state its slaves are in
+pub script_fits : (t : Contents) → table.IsSound t → compile_fault t ≡ None → (ss : List SlaveState) → frames_up (plan_of t).slaves (feeds_of (plan_of t)) ss < cycle_limit
+script_fits t sound free ss =
     let s = plan_sound t sound free in
     let u = plan_usable t sound free in
+    let plans = (are-plans t sound free).plans in
     let parts = few_feeds (plan_of t) in
-    let frames = few-frames (feeds_of (plan_of t)) (script (plan_of t).slaves) (omega (arith, parts, u.few_parts)) in
-    omega (arith, frames, scripts_are_short (plan_of t).slaves (are-plans t sound free).plans.planned, s.as_many, s.few)
+    let most : 103 * (length (feeds_of (plan_of t)) + 1) ≤ 103 * 33 = omega (arith, parts, u.few_parts) in
+    let all = mul-le-mul_right (length (script (plan_of t).slaves)) most in
+    let frames = (frames-few (plan_of t).slaves (feeds_of (plan_of t)) plans ss).1 in
+    omega (arith, frames, all, scripts_are_short (plan_of t).slaves plans.planned, s.as_many, s.few)

@@ -24,10 +24,20 @@ fn told_of(rt: &(impl AllocGlobal + Abort), text: &str, refusal: Refusal) -> Str
     remarks_text(rt.alloc(), text, 0, names, &refusal).expect(rt, "memory")
 }
 
+/// Compares what explains a refusal on a text.
+pub(crate) fn expect_told(
+    rt: &(impl AllocGlobal + Abort),
+    text: &str,
+    refusal: Refusal,
+    wanted: &str,
+) {
+    let told = told_of(rt, text, refusal);
+    expect_phrases(rt, told.as_str(), wanted);
+}
+
 /// Compares what explains a refusal of the machine.
 fn expect_refusal(rt: &(impl AllocGlobal + Abort), refusal: Refusal, wanted: &str) {
-    let told = told_of(rt, MACHINE, refusal);
-    expect_phrases(rt, told.as_str(), wanted);
+    expect_told(rt, MACHINE, refusal, wanted);
 }
 
 const DRIVE: Device = Device {

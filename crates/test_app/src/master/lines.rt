@@ -38,13 +38,14 @@ fn wire_of(rt: &(impl AllocGlobal + Abort), machine: &Machine, fails_at: u64) ->
     MemoryWire::new(rt.alloc(), slaves, 2000, fails_at).expect(rt, "memory")
 }
 
-/// A master of the three slaves over a wire.
+/// A master of a machine over a wire.
 fn mastered_over<H: AllocGlobal + Abort + Clock>(
     rt: &H,
+    machine: Machine,
     wire: MemoryWire,
     manner: Manner,
 ) -> Mastered<'_, MemoryWire, H> {
-    Mastered::new(rt.alloc(), rt, three_slaves(rt), wire, manner).expect(rt, "memory")
+    Mastered::new(rt.alloc(), rt, machine, wire, manner).expect(rt, "memory")
 }
 
 /// Lines, the call of the wire that fails, how often what they expect isn't so, and what they print.
@@ -64,7 +65,7 @@ fn expect_ended(rt: &impl Abort, run: &Run, ended: Result<u64, Refusal>, output:
 /// Runs lines over a wire to the three slaves, and compares what they print.
 fn expect_run<H: AllocGlobal + Abort + Clock>(rt: &H, manner: Manner, run: &Run) {
     let wire = wire_of(rt, &three_slaves(rt), run.1);
-    let mut mastered = mastered_over(rt, wire, manner);
+    let mut mastered = mastered_over(rt, three_slaves(rt), wire, manner);
     let mut output = OutputStream::new(Vec::new(rt.alloc()));
     let ended = run_all(rt.alloc(), &mut mastered, run.0, &mut output);
     expect_ended(rt, run, ended, output.into_stream().as_slice());
@@ -314,9 +315,14 @@ fn other_slaves(rt: &(impl AllocGlobal + Abort), old: &str, new: &str) -> Machin
     Machine::read(rt.alloc(), text.as_str()).expect(rt, "a good table")
 }
 
-/// Runs `ready` of the three slaves over other ones, with reasons.
-fn ready_over(rt: &(impl AllocGlobal + Abort + Clock), slaves: &Machine) -> Vec<u8> {
-    let mut mastered = mastered_over(rt, wire_of(rt, slaves, NEVER), Manner::of(true, false));
+/// Runs `ready` of a machine over the slaves of another, with reasons.
+fn ready_over(
+    rt: &(impl AllocGlobal + Abort + Clock),
+    machine: Machine,
+    slaves: &Machine,
+) -> Vec<u8> {
+    let wire = wire_of(rt, slaves, NEVER);
+    let mut mastered = mastered_over(rt, machine, wire, Manner::of(true, false));
     let mut output = OutputStream::new(Vec::new(rt.alloc()));
     let ended = run_all(rt.alloc(), &mut mastered, "ready\n", &mut output);
     expect_same(rt, &ended, &Ok(0), "ready");
@@ -326,14 +332,89 @@ fn ready_over(rt: &(impl AllocGlobal + Abort + Clock), slaves: &Machine) -> Vec<
 /// Compares what is printed of a start-up over other slaves.
 fn expect_failure(rt: &(impl AllocGlobal + Abort + Clock), failure: &Failure) {
     let (old, new, number, words) = *failure;
-    let output = ready_over(rt, &other_slaves(rt, old, new));
+    let output = ready_over(rt, three_slaves(rt), &other_slaves(rt, old, new));
+    expect_failed(rt, output.as_slice(), number, words);
+}
+
+/// Compares what is printed of a start-up that failed.
+fn expect_failed(rt: &(impl AllocGlobal + Abort), output: &[u8], number: u8, words: &str) {
     let wanted = format!(in rt.alloc(); "failed {number}\n  {words}\n").expect(rt, "memory");
-    expect_same(rt, &output.as_slice(), &wanted.as_bytes(), words);
+    expect_same(rt, &output, &wanted.as_bytes(), words);
 }
 
 #[test]
 fn failed_start_ups_tell_why(rt: HostRuntime) {
     for failure in &FAILURES {
         expect_failure(&rt, failure);
+    }
+}
+
+/// A change of the third type: OLD becomes NEW.
+type Change<'a> = (&'a str, &'a str);
+
+/// Changes of the master's table for hardware and of its slaves', what the start-up fails by, and what stands behind that.
+type RealFailure<'a> = (Change<'a>, Change<'a>, u8, &'a str);
+
+const MAILBOX: &str = "mailbox = [0x1000, 128, 0x1080, 128],";
+
+const PARAMETER: &str = "mailbox = [0x1000, 128, 0x1080, 128], init = [[0x8000, 6, 16, 3]],";
+
+const EMERGENCY: &str = "mailbox = [0x1000, 128, 0x1080, 128], emergency = true,";
+
+const FIXED: &str = "mailbox = [0x1000, 128, 0x1080, 128], fixed = true,";
+
+// Each is worked out from the tables by hand.
+const REAL_FAILURES: [RealFailure; 4] = [
+    (
+        (MAILBOX, PARAMETER),
+        (MAILBOX, EMERGENCY),
+        30,
+        "30 Abort 2 100794368: slave 2 s2 aborted an SDO transfer, code 0x06020000: it has no such object; \
+         it was the download of the parameter 0x3 into 0x8000:0x06, row 1 of `init` of its type; \
+         slave 2 s2 sent an emergency, error code 0x5000, error register 0x00; it doesn't take a parameter of `init`",
+    ),
+    (
+        (MAILBOX, MAILBOX),
+        (MAILBOX, FIXED),
+        30,
+        "30 Abort 2 100728834: slave 2 s2 aborted an SDO transfer, code 0x06010002: the object can only be read; \
+         it was the download of 0 into 0x1C12:0x00, before the PDOs are assigned; its assignment may be fixed",
+    ),
+    (
+        (MAILBOX, FIXED),
+        (
+            "[[0x6010, 1, 16]] }",
+            "[[0x6010, 1, 16]] }, { index = 0x1A01, entries = [[0x6011, 1, 16]] }",
+        ),
+        38,
+        "38 Mapping 2 7187 0 2: slave 2 s2 has 0x2 in its object 0x1C13:0x00; \
+         it was the upload of 0x1C13:0x00, how many PDOs are assigned, and the table has 0x1 there; \
+         its fixed assignment isn't that of its type",
+    ),
+    (
+        (MAILBOX, MAILBOX),
+        ("[0x7010, 1, 12]", "[0x7010, 1, 11]"),
+        38,
+        "38 Mapping 2 5632 1 1880097035: slave 2 s2 has 0x7010010B in its object 0x1600:0x01; \
+         it was the upload of 0x1600:0x01, an entry of the PDO, and the table has 0x7010010C there; its mapping isn't that of its type",
+    ),
+];
+
+/// The machine of the three slaves for hardware, without variables and links, with a change.
+fn real_machine(rt: &(impl AllocGlobal + Abort), change: &Change) -> Machine {
+    let (old, new) = *change;
+    let (slaves, _) = THREE_SLAVES
+        .split_once("variable = [")
+        .expect(rt, "variables");
+    let changed = slaves.replace(rt.alloc(), old, new).expect(rt, "memory");
+    let text = format!(in rt.alloc(); "hardware = true\n{changed}").expect(rt, "memory");
+    Machine::read(rt.alloc(), text.as_str()).expect(rt, "a good table")
+}
+
+#[test]
+fn failed_start_ups_of_real_devices_tell_why(rt: HostRuntime) {
+    for (master, slaves, number, words) in &REAL_FAILURES {
+        let output = ready_over(&rt, real_machine(&rt, master), &real_machine(&rt, slaves));
+        expect_failed(&rt, output.as_slice(), *number, words);
     }
 }

@@ -1,6 +1,6 @@
 //! Messages that are no SDO request by an expedited transfer, and what a full slave answers to them; and bytes that a master reads.
 use crate::compare::{bytes_of, expect, expect_same, expect_words, parts};
-use ec_coe::{BadMailbox, read_message, read_reply, refuse};
+use ec_coe::{BadMailbox, ValueSize, is_aside, read_free_reply, read_message, read_reply, refuse};
 use std::alloc::{AllocError, Global};
 use std::process::Abort;
 
@@ -122,5 +122,37 @@ fn expect_read(rt: &(impl AllocGlobal + Abort), row: &str) {
 fn replies(rt: HostRuntime) {
     for row in REPLIES.lines() {
         expect_read(&rt, row);
+    }
+}
+
+/// Whether it is set aside, and what it says to a master that takes any size and wants two bytes: a value without its size, whatever the
+/// bits of the size are; one of another size; one by a normal transfer; an abort; an emergency; another protocol; a mailbox error.
+const FREE_REPLIES: &str = "\
+0a0000000013 0030 42121c00 01020304 > false Uploaded(SdoValue { size: Two, number: 513 })
+0a0000000013 0030 4e121c00 01020304 > false Uploaded(SdoValue { size: Two, number: 513 })
+0a0000000013 0030 43121c00 01000000 > false Uploaded(SdoValue { size: Four, number: 1 })
+0a0000000013 0030 41121c00 01000000 > false Unexpected
+0a0000000013 0020 80121c00 22000008 > false Aborted(134217762)
+0a0000000013 0010 0050 00 0000000000 > true Unexpected
+0a0000000012 0030 60121c00 00000000 > true Unexpected
+040000000010 0100 0200 > true Unexpected";
+
+/// What a message says, in words.
+fn free_words(alloc: Global, bytes: &[u8]) -> Result<String, AllocError> {
+    let reply = read_free_reply(bytes, 0x1C12, 0, ValueSize::Two);
+    let is_aside = is_aside(bytes);
+    format!(in alloc; "{is_aside} {reply:?}")
+}
+
+/// Compares what the message of a row says.
+fn expect_free(rt: &(impl AllocGlobal + Abort), row: &str) {
+    let (bytes, wanted) = parts(rt, row, " > ");
+    expect_words(rt, free_words(rt.alloc(), &bytes_of(rt, bytes)), wanted);
+}
+
+#[test]
+fn free_replies(rt: HostRuntime) {
+    for row in FREE_REPLIES.lines() {
+        expect_free(&rt, row);
     }
 }

@@ -105,3 +105,75 @@ writes 0620 0100010002000007
 fn slaves_with_firmware(rt: HostRuntime) {
     expect_cases(&rt, Kind::Valve, TO_SAFEOP, OF_A_VALVE);
 }
+
+/// The mailboxes.
+const MAILBOXES: &str = "writes 0800 0010800026000100 8010800022000100";
+
+/// From INIT, with mailboxes. The firmware is slow by two steps.
+const OF_A_DRIVE: &str = "\
+# Two steps let a request wait, and the third decides it.
+case slow
+asks 0200 > 010000000000
+serves
+shows 0130 > 01
+serves
+shows 0130 > 02
+
+# A request that comes meanwhile waits anew.
+case asked_again
+asks 0200 > 010000000000
+serves
+asks 0200 > 010000000000
+serves
+shows 0130 > 01
+serves
+shows 0130 > 02
+
+# In PREOP an emergency lies in the mailbox. It has the first counter, and no message is taken before it is read.
+case emergency
+asks 0200 > 010000000000
+serves
+serves
+sends 0a0000000013 0020 40606000 00000000
+replies > 0a0000000013 0010 0050 00 0000000000
+serves
+replies > 0a0000000023 0030 4f606000 00000000
+
+# PREOP is entered from INIT once.
+case once
+asks 0200 > 010000000000
+serves
+serves
+replies > 0a0000000013 0010 0050 00 0000000000
+asks 0200 > 020000000000
+serves
+serves
+sends 0a0000000013 0020 40606000 00000000
+replies > 0a0000000023 0030 4f606000 00000000
+
+# What was downloaded is kept, until the power goes off.
+case kept
+asks 0200 > 010000000000
+serves
+serves
+replies > 0a0000000013 0010 0050 00 0000000000
+sends 0a0000000013 0020 2b108001 feff0000
+replies > 0a0000000023 0030 60108001 00000000
+sends 0a0000000013 0020 40108001 00000000
+replies > 0a0000000033 0030 4b108001 feff0000
+sends 0a0000000013 0020 2f121c00 00000000
+replies > 0a0000000043 0020 80121c00 02000106
+resets
+writes 0800 0010800026000100 8010800022000100
+asks 0200 > 010000000000
+serves
+serves
+replies > 0a0000000013 0010 0050 00 0000000000
+sends 0a0000000013 0020 40108001 00000000
+replies > 0a0000000023 0030 4b108001 00000000
+";
+
+#[test]
+fn slow_slaves_with_parameters(rt: HostRuntime) {
+    expect_cases(&rt, Kind::Drive, MAILBOXES, OF_A_DRIVE);
+}

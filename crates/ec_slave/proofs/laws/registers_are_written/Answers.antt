@@ -1,5 +1,5 @@
 use Rattle.ec_slave.proofs.Memory.RegisterLaws.{registers_written, registers_read, managers_aside, registers_open}
-use Rattle.ec_slave.proofs.Memory.RegisterResets.{managers_cleared, sii_left}
+use Rattle.ec_slave.proofs.Memory.RegisterResets.{managers_cleared, on_left, sii_left}
 use Rattle.ec_slave.proofs.laws.registers_are_written.Goals as goal
 
 pub returns-clause-written : goal.returns-clause-written
@@ -19,3 +19,6 @@ returns-clause-cleared c = managers_cleared
 
 pub returns-clause-left : goal.returns-clause-left
 returns-clause-left c = sii_left
+
+pub returns-clause-fresh : goal.returns-clause-fresh
+returns-clause-fresh c = on_left

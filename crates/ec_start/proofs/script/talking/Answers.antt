@@ -1,4 +1,4 @@
-use Rattle.std.proofs.Common.{◌∙◌}
+use Rattle.std.proofs.Common.{◌∙◌, ap, Some}
 use Rattle.ec_start.proofs.CursorActions.{talked_none, talked_sent, talked_awaited}
 use Rattle.ec_start.proofs.script.talking.Goals as goal
 
@@ -12,4 +12,5 @@ returns-then-place-eq0-clause-value c =
 
 pub returns-else-place-eq0-clause-value : goal.returns-else-place-eq0-clause-value
 returns-else-place-eq0-clause-value c =
-    talked_awaited c.args.slave c.args.settings.now c.args.settings.now.kind.mailbox c.in_ok-mailbox.mailbox c.args.place c.in_ok-request.request c.in_ok-mailbox.ensures.value c.in_ok-request.ensures c.if-place-eq0.false
+    ap Some c.reply_awaited.ensures.value
+    ∙ talked_awaited c.args.slave c.args.settings.now c.args.settings.now.kind.mailbox c.in_ok-mailbox.mailbox c.args.place c.in_ok-request.request c.in_ok-mailbox.ensures.value c.in_ok-request.ensures c.if-place-eq0.false

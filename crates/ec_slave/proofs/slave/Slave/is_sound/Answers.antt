@@ -17,4 +17,5 @@ returns c =
       in_slots = c.is_sound-6.ensures.slots.inputs;
       out_count = c.is_sound-6.ensures.outputs;
       in_count = c.is_sound-6.ensures.inputs;
+      parameters = c.is_sound-6.ensures.slots.parameters;
     })

@@ -53,6 +53,7 @@ returns c =
       identity = c.answer-reply.new.self.identity;
       outs = c.answer-reply.new.self.outs;
       ins = c.answer-reply.new.self.ins;
+      values = c.answer-reply.new.self.values;
       managers = slice_set x.managers 1 c.mailbox_put.new.self;
       replies = reply_counter x.replies;
     }) c.self.view_is

@@ -9,7 +9,7 @@ use Rattle.ec_start.proofs.startup.Startup.action.Goals as goal
 pub returns-then-not-is_fed-clause-value : goal.returns-then-not-is_fed-clause-value
 returns-then-not-is_fed-clause-value c =
     let i = c.self.inside in
-    let s : StartState = record { plan = (plan_in i.held).slaves; feeds = feeds_of (plan_in i.held); next = i.next; place = i.place; fed = i.fed; polls = i.polls; seen = i.seen; phase = i.phase } in
+    let s : StartState = record { plan = (plan_in i.held).slaves; feeds = feeds_of (plan_in i.held); next = i.next; place = i.place; fed = i.fed; polls = i.polls; seen = i.seen; heard = i.heard; phase = i.phase } in
     let runs = ap (λ (t : StartState). is_ended t.phase) c.self.view_is ∙ c.requires in
     let is : step_of s ≡ i.step.action = action_is (plan_in i.held).slaves i.place i.step (c.self.invariant.at_step runs) in
     sym (own_action s (ap is_fed is ∙ (sym c.is_fed.ensures ∙ c.if-not-is_fed.true)) ∙ is) ∙ ap action_of c.self.view_is
@@ -17,7 +17,7 @@ returns-then-not-is_fed-clause-value c =
 pub returns-in-Some-clause-value : goal.returns-in-Some-clause-value
 returns-in-Some-clause-value c =
     let i = c.self.inside in
-    let s : StartState = record { plan = (plan_in i.held).slaves; feeds = feeds_of (plan_in i.held); next = i.next; place = i.place; fed = i.fed; polls = i.polls; seen = i.seen; phase = i.phase } in
+    let s : StartState = record { plan = (plan_in i.held).slaves; feeds = feeds_of (plan_in i.held); next = i.next; place = i.place; fed = i.fed; polls = i.polls; seen = i.seen; heard = i.heard; phase = i.phase } in
     let runs = ap (λ (t : StartState). is_ended t.phase) c.self.view_is ∙ c.requires in
     let is : step_of s ≡ i.step.action = action_is (plan_in i.held).slaves i.place i.step (c.self.invariant.at_step runs) in
     let next : slice_get s.feeds s.fed ≡ Some c.in-Some.feed = sym (c.in-Some.ensures.value ∙ ap (λ (p : PlanState). slice_get (feeds_of p) i.fed) c.plan.ensures) in
@@ -26,7 +26,7 @@ returns-in-Some-clause-value c =
 pub returns-in-None-clause-value : goal.returns-in-None-clause-value
 returns-in-None-clause-value c =
     let i = c.self.inside in
-    let s : StartState = record { plan = (plan_in i.held).slaves; feeds = feeds_of (plan_in i.held); next = i.next; place = i.place; fed = i.fed; polls = i.polls; seen = i.seen; phase = i.phase } in
+    let s : StartState = record { plan = (plan_in i.held).slaves; feeds = feeds_of (plan_in i.held); next = i.next; place = i.place; fed = i.fed; polls = i.polls; seen = i.seen; heard = i.heard; phase = i.phase } in
     let runs = ap (λ (t : StartState). is_ended t.phase) c.self.view_is ∙ c.requires in
     let is : step_of s ≡ i.step.action = action_is (plan_in i.held).slaves i.place i.step (c.self.invariant.at_step runs) in
     let next : slice_get s.feeds s.fed ≡ None = sym (c.in-None.ensures.value ∙ ap (λ (p : PlanState). slice_get (feeds_of p) i.fed) c.plan.ensures) in

@@ -50,7 +50,7 @@ returns-in-Some c =
     let same : c.slaves.result.now ≡ (plan_in i.held).slaves = c.slaves.ensures.value ∙ ap (λ (p : PlanState). p.slaves) c.plan.ensures in
     let settled = subst (λ (ps : List SlavePlan). IsSettled ps (record i.step.cursor { place = i.step.cursor.place + 1 }) c.in-Some.step) same c.in-Some.ensures in
     let g = advances (plan_in i.held).slaves i.place i.step c.in-Some.step (inv.at_step (sent_runs i.phase was_sent)) settled in
-    let shown : Bool → StartState = λ b. record { plan = (plan_in i.held).slaves; feeds = feeds_of (plan_in i.held); next = i.next; place = i.place + 1; fed = 0; polls = 0; seen = c.args.seen; phase = if b then Idle else Ready } in
+    let shown : Bool → StartState = λ b. record { plan = (plan_in i.held).slaves; feeds = feeds_of (plan_in i.held); next = i.next; place = i.place + 1; fed = 0; polls = 0; seen = c.args.seen; heard = i.heard; phase = if b then Idle else Ready } in
     ap shown (sym g.more) ∙ ap (λ (t : StartState). advanced t c.args.seen) c.self.view_is
 
 pub returns-in-None : goal.returns-in-None
@@ -61,5 +61,5 @@ returns-in-None c =
     let same : c.slaves.result.now ≡ (plan_in i.held).slaves = c.slaves.ensures.value ∙ ap (λ (p : PlanState). p.slaves) c.plan.ensures in
     let none = subst (λ (ps : List SlavePlan). ahead ps (record i.step.cursor { place = i.step.cursor.place + 1 }) ≡ []) same c.in-None.ensures in
     let e = ends (plan_in i.held).slaves i.place i.step (inv.at_step (sent_runs i.phase was_sent)) none in
-    let shown : Bool → StartState = λ b. record { plan = (plan_in i.held).slaves; feeds = feeds_of (plan_in i.held); next = i.next; place = i.place + 1; fed = 0; polls = 0; seen = c.args.seen; phase = if b then Idle else Ready } in
+    let shown : Bool → StartState = λ b. record { plan = (plan_in i.held).slaves; feeds = feeds_of (plan_in i.held); next = i.next; place = i.place + 1; fed = 0; polls = 0; seen = c.args.seen; heard = i.heard; phase = if b then Idle else Ready } in
     ap shown (sym e) ∙ ap (λ (t : StartState). advanced t c.args.seen) c.self.view_is

@@ -1,7 +1,7 @@
 use Rattle.ec_device.specs.Types.{first_output_index, first_input_index}
 use Rattle.ec_device.proofs.Limits.{few_bits}
 use Rattle.ec_start.proofs.RequestRuns.{first_upload, second_upload}
-use Rattle.ec_start.proofs.requests.upload_in.Goals as goal
+use Rattle.ec_start.proofs.requests.mapping_in.Goals as goal
 
 pub uploads_at-requires : goal.uploads_at-requires
 uploads_at-requires c = few_bits first_output_index c.outputs.result.now c.outputs.ensures.limits
