@@ -49,7 +49,7 @@ def any_managers(chance: random.Random, has_mailbox: bool, outputs: tuple[Pdo, .
     """Numbers of the managers of outputs and inputs. A direction without objects has the usual one in a table, so the other isn't that."""
     numbers = [2, 3] if has_mailbox else [0, 1, 2, 3]
     out, into = chance.sample(numbers, 2)
-    return 2 if not inputs and out == 3 else out, 3 if not outputs and into == 2 else into
+    return (2, 3) if not inputs and out == 3 or not outputs and into == 2 else (out, into)
 
 
 def any_mailbox(chance: random.Random) -> dict[str, object]:

@@ -17,7 +17,7 @@ from plant import Plant, differences, trespasses, unsettled
 from slave import Slave, Variable, places_of
 
 TOP = pathlib.Path(__file__).resolve().parent.parent.parent
-CONTROL = TOP / "examples" / "cell" / "control.py"
+TABLE, CONTROL = TOP / "examples" / "cell" / "cell.toml", TOP / "examples" / "cell" / "control.py"
 # the most frames that a step of the story waits for, and the most seconds of a run
 MOST_FRAMES, LIMIT = 20000, 600
 

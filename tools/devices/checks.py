@@ -12,18 +12,21 @@ import sys
 
 import eeprom
 import models
+from direct import Direct
 from esc import APRD, APRW, APWR, ARMW, BRD, BRW, BWR, ET1100, ET1200, FPRD, FPRW, FPWR, FRMW, LRD, LRW, LWR, NOP, Chip
 from plant import Plant, differences, trespasses, unsettled
+from retold import Master
+from scanned import as_found, as_said, compared, left, unlike_unsaid, wrong_slaves
 from slave import OP, PREOP, SAFEOP, Slave, Smart
+from tables import table_of
+
+# of tools/masters, which direct.py finds
+from bus import Slave as Seen
+from bus import Stumble, fmmu_of, sdo
+from masters import Slave as SoemSlave
+from masters import soem
 
 TOOLS = pathlib.Path(__file__).resolve().parent.parent
-sys.path.append(str(TOOLS / "masters"))
-from bus import Bus, Stumble, fmmu_of, sdo  # noqa: E402
-from bus import Slave as Seen  # noqa: E402
-from masters import Slave as SoemSlave  # noqa: E402
-from masters import soem  # noqa: E402
-from retold import Master  # noqa: E402
-
 COUNT = 0
 
 
@@ -34,29 +37,6 @@ def expect(what: str, came: object, wanted: object) -> None:
     if came != wanted:
         came, wanted = (one.hex() if isinstance(one, (bytes, bytearray)) else one for one in (came, wanted))
         sys.exit(f"devices: a model is wrong: {what}: wanted {wanted}, came {came}")
-
-
-class Direct(Bus):
-    """The bus of tools/masters, whose frames go to a plant without a socket."""
-
-    def __init__(self, plant: Plant) -> None:
-        self.plant, self.number, self.frames, self.least, self.slaves, self.heading = plant, 0, 0, 0, None, b""
-        self.socket = self
-        self.came = b""
-
-    def exchange(self, datagrams: list) -> list:
-        self.waiting = True
-        return super().exchange(datagrams)
-
-    def send(self, *words: object) -> object:
-        """A frame of the bus's, or a datagram alone, as `Bus.send`."""
-        if len(words) == 1:
-            self.came = self.plant.answer(words[0])
-            return None
-        return super().send(*words)
-
-    def receive(self) -> bytes:
-        return self.came
 
 
 def make(*chips: Chip) -> tuple[Plant, Direct]:
@@ -608,6 +588,34 @@ def check_retold() -> None:
         plant = Plant([kind()])
         expect(f"{master.__name__} with {kind.__name__}", master(Direct(plant), plant, [kind]).start_up(), end)
         expect(f"{kind.__name__} is as it must be", not unsettled(plant.devices[0]), not is_found)
+
+
+def check_scanned() -> None:
+    """A table that a scan could print of three devices; what is said of one that isn't theirs, and of comments, explanations and ends."""
+    kinds = [as_found(kind, False) for kind in (models.EK1100, models.Quick, models.EL3104)]
+    text = table_of([as_said(kind) for kind in kinds], True)
+    expect("the table of these devices", list(wrong_slaves(text, kinds)), [])
+    rows = (("revision = 3\n", "revision = 4\n", "slave 1 has revision 4, wanted 3"),
+            ("firmware = false", "", "slave 0 has firmware True, wanted False"),
+            ("0x1080, 128]\nout_start = 0x1100", "0x1080, 96]\nout_start = 0x1100",
+             "slave 1 has mailbox [4096, 128, 4224, 96], wanted [4096, 128, 4224, 128]"),
+            ("in = [0x1A00, 0x1A02, 0x1A04, 0x1A06]", "in = [0x1A00]", "slave 2 has in [6656], wanted [6656, 6658, 6660, 6662]"),
+            ("out_start = 0x1100", "out_start = 0x1101", "slave 1 has out_start 4353, wanted 4352"))
+    for old, new, wrong in rows:
+        expect(f"`{old}` once", text.count(old), 1)
+        expect(f"`{new}` in its place", list(wrong_slaves(text.replace(old, new), kinds)), [wrong])
+    text = text.replace('[[slave]]\nname = "quick"', '# inputs of it, and so on\n[[slave]]\nname = "quick"')
+    told = "slave 1 `quick`: inputs of it, and so on\nTo do: try.\n"
+    rows = ((text, "46 Unsaid 1", told, "inputs of it", 0), (text, "46 Unsaid 2", told, "inputs of it", 2),
+            (text, "46 Unsaid 1", "", "inputs of it", 1), (text, "46 Unsaid 1", told, "outputs of it", 2), (text, "", "", None, 1),
+            (text.replace("# inputs", "inputs"), "", told, None, 1))
+    for table, refusal, explained, what, count in rows:
+        expect(f"comments and explanations of {refusal}, {what}", len(unlike_unsaid(table, refusal, explained, what)), count)
+    plant, seen = open_mailbox(models.Quick())
+    asked(seen, 0x2F, 0x1C12, 0, b"\0")
+    expect("a scan that downloads, and goes nowhere", left(plant.devices[0]), ["state PREOP behind the scan", "0x1c12:0 was downloaded by the scan"])
+    expect("ends", [compared(*ends) for ends in (("31 TooSlow", "31 TooSlow 23"), ("28 Counter", "31 TooSlow 23"))],
+           ["as by its own table", "by its own table 31 TooSlow"])
 
 
 def check_models() -> int:

@@ -83,8 +83,8 @@ class Coe(Smart):
     answers: int | None = None
     # it leaves a message in its mailbox; its replies name another index, or another subindex; it answers by a mailbox error
     is_keeping = is_wrong = is_beside = is_erring = False
-    # an upload's reply doesn't say its size; it brings four bytes of a shorter value
-    is_unsized = is_wide = False
+    # an upload's reply doesn't say its size; it brings four bytes of a shorter value; it is never expedited
+    is_unsized = is_wide = is_normal = False
     # objects that show another's value: index and subindex to the other's
     shown: dict[tuple[int, int], tuple[int, int]] = {}
     # the highest value that an object takes
@@ -214,7 +214,7 @@ class Coe(Smart):
 
     def uploaded(self, value: bytes) -> tuple[int, bytes]:
         """The answer to an upload: expedited up to four bytes, else normal [AL "SDO upload"]. A device may leave out the size."""
-        if len(value) > 4:
+        if len(value) > 4 or self.is_normal:
             return 0x41, struct.pack("<I", len(value)) + value
         if self.is_wide:
             return 0x43, value.ljust(4, b"\0")

@@ -407,6 +407,9 @@ class Esc:
         """A read of the EEPROM ends: four bytes, or eight, are there [ESC 0x0502 bit 6, 0x0508]."""
         state = self.word(SII_CONTROL)
         count = 8 if state & SII_EIGHT else 4
+        if not self.eeprom:
+            self.put_word(SII_CONTROL, state & ~(SII_BUSY | 0x0700) | SII_ERROR)
+            return
         at = 2 * struct.unpack_from("<I", self.memory, SII_ADDRESS)[0]
         self.memory[SII_DATA : SII_DATA + count] = self.eeprom[at : at + count].ljust(count, b"\xff")
         self.put_word(SII_CONTROL, state & ~(SII_BUSY | 0x0700))

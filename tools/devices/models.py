@@ -9,7 +9,7 @@ import struct
 
 from coe import EOE, Coe, emergency
 from esc import BYTEWISE, ET1100, ET1200, HAS_CLOCKS, NO_LRW, SII_CONTROL, SII_EIGHT, Chip
-from slave import BOOT, INIT, OP, PREOP, SAFEOP, WATCHDOG, Area, Pdo, Slave, Smart, Variable
+from slave import BOOT, INIT, OP, PREOP, SAFEOP, WATCHDOG, Area, Pdo, Slave, Smart, Trial, Variable, bytes_of, places_of
 
 
 def channels(first: int, entry: int, count: int, step: int = 1) -> tuple[Pdo, ...]:
@@ -51,6 +51,9 @@ class EL1008(Slave):
 class EL1008Masked(EL1008):
     """The same, if its controller didn't copy the acknowledge bit. A table of today has its inputs on manager 3."""
 
+    # a scan takes it for a device with firmware, by this bit
+    said = {"emulates": False}
+
     def begin(self) -> None:
         self.esc.copied = 0x0F
 
@@ -69,6 +72,7 @@ class EL2008Elsewhere(EL2008):
     """The same with a table whose outputs begin in RAM, where no pins are; and the acknowledge bit isn't copied."""
 
     told_out_start = 0x1000
+    said = {"emulates": False}
 
     def begin(self) -> None:
         self.esc.copied = 0x0F
@@ -165,6 +169,7 @@ class EL6224(Coe):
 
     product, revision = 0x18503052, 0x00120000
     inputs = (Pdo(0x1A00, ((0x6000, 1, 240),)),)
+    said = {"inputs": ()}
 
 
 # ---- a device without oddities, and its variants
@@ -184,6 +189,12 @@ class NoLrw(Quick):
 
     product = 0x0101
     chip = Chip(0x11, 8, 8, 8, NO_LRW)
+
+
+class UnsaidLrw(NoLrw):
+    """The same with a table that doesn't say so."""
+
+    product, told_lrw = 0x0136, True
 
 
 class TwoFmmus(Quick):
@@ -213,6 +224,32 @@ class FourthManager(Quick):
 
     product = 0x0105
     out_area, in_area = Area(4, 0x1100, 0x24), Area(5, 0x1180, 0x20)
+    said = {"out_area": Area(2, 0x1100, 0x24), "in_area": Area(3, 0x1180, 0x20)}
+
+
+class SpareObject(Quick):
+    """It also has an object of 240 bits, which isn't assigned as delivered."""
+
+    product = 0x0135
+    inputs = (*Quick.inputs, Pdo(0x1A01, ((0x6010, 1, 240),)))
+    delivered = ((0x1600,), (0x1A00,))
+    said = {"inputs": Quick.inputs}
+
+
+class Repeats(Quick):
+    """As delivered it exchanges two objects of outputs, which have an entry in common."""
+
+    product = 0x0139
+    outputs = (Pdo(0x1600, ((0x7000, 1, 8),)), Pdo(0x1601, ((0x7000, 2, 8), (0x7000, 1, 8))))
+    said = {"left_out": (0x1601,)}
+
+
+class AlwaysRepeats(Smart):
+    """The same without a mailbox, so that it always exchanges both."""
+
+    vendor, product, revision = 0x5A5, 0x013A, 3
+    outputs, inputs, variables = Repeats.outputs, Quick.inputs, Quick.variables
+    said = {"outputs": Repeats.outputs[:1]}
 
 
 class Bare(Smart):
@@ -314,6 +351,13 @@ class Wide(Quick):
     is_wide = True
 
 
+class Normal(Quick):
+    """Its uploads come by normal replies, which other devices have for more than four bytes alone (?)."""
+
+    product = 0x0138
+    is_normal = True
+
+
 class Deaf(Quick):
     """It takes no message, so its mailbox is full for ever."""
 
@@ -381,6 +425,8 @@ class OtherMapping(Quick):
     product = 0x0110
     maps, mapped = True, {0x1600: ((0x7001, 1, 8), (0x7001, 2, 8))}
     init = ((0x1C12, 0, 8, 0), (0x1600, 0, 8, 0), (0x1600, 1, 32, 0x70000108), (0x1600, 0, 8, 1))
+    # as delivered two bytes are exchanged, and its pins are these
+    scanned = completed = Trial((Variable("front", ((0x7001, 1),), 0x3C), Variable("rear", ((0x7001, 2),), 0xA7), Quick.variables[1]))
 
 
 class Parameters(Quick):
@@ -407,10 +453,16 @@ class TooManyParameters(ManyParameters):
     init = (*ManyParameters.init, (0x8020, 64, 8, 0))
 
 
-class FixedWithParameters(FixedAssignment):
-    """An assignment that can't be written, which its SII doesn't say, emergencies, late replies and a parameter in one device."""
+class FixedUnsaid(FixedAssignment):
+    """Its SII says that its assignment can be written, which isn't so."""
 
-    is_boasting = True
+    product, is_boasting = 0x0134, True
+    said = {"fixed": False}
+
+
+class FixedWithParameters(FixedAssignment):
+    """An assignment that can't be written, emergencies, late replies and a parameter in one device."""
+
     product, greetings, late = 0x0129, Emergencies.greetings, {(0x1C12, 1): 0.3, (0x8010, 1): 0.3}
     settings, init = {(0x8010, 1): (0, 2)}, ((0x8010, 1, 16, 700),)
 
@@ -439,6 +491,16 @@ class SiiFailed(Quick):
 
     product = 0x0114
     sii_has_failed = True
+
+
+class NoSii(Quick):
+    """It has no EEPROM, so each command to its SII ends with an error [ESC 0x0502, bit 13]."""
+
+    product = 0x0137
+
+    def begin(self) -> None:
+        super().begin()
+        self.esc.eeprom = b""
 
 
 class SiiByEight(Quick):
@@ -532,10 +594,17 @@ class RefusesLength(Quick):
 # enabled"], and its bits "remote" and, in cyclic modes, "drive follows the command value".
 DISABLED, READY_TO_SWITCH, SWITCHED_ON, ENABLED, FAULT = 0x0040, 0x0021, 0x0023, 0x0027, 0x0008
 STATE_BITS, REMOTE, FOLLOWS = 0x006F, 0x0200, 0x1000
-# cyclic synchronous position, the modes that there are (that bit alone), and the most that the position changes by a cycle
-CSP, MODES, STRIDE = 8, 1 << 7, 1000
+# cyclic synchronous position and velocity, each with the object that has its target, and the most that the position changes by a cycle
+CSP, CSV, STRIDE = 8, 9, 1000
+TARGETS = {CSP: 0x607A, CSV: 0x60FF}
 # the control word's bits: a rising edge of the last resets a fault
 RESETS = 0x0080
+
+
+# In cyclic modes other bits of the status word may be set, so its state is looked at. Control words 6, 7 and 15 enable it.
+ENABLES = (
+    "set {}_control 6", "repeat 2 cycle", "expect {}_status & 0x6F == 0x21", "set {}_control 7", "repeat 2 cycle",
+    "expect {}_status & 0x6F == 0x23", "set {}_control 15", "repeat 2 cycle", "expect {}_status & 0x6F == 0x27")
 
 
 class Drive(Coe):
@@ -553,36 +622,51 @@ class Drive(Coe):
     settings = {(0x6060, 0): (0, 1), (0x60C2, 1): (1, 1)}
     shown = {(0x6061, 0): (0x6060, 0)}
     init = ((0x6060, 0, 8, CSP), (0x60C2, 1, 8, 2))
+    # those that it supports [IEC 61800-7-201, 0x6502: mode n is bit n - 1]
+    modes: tuple[int, ...] = (CSP,)
     delays, patience, sdo_time = {PREOP: 0.3, SAFEOP: 0.05}, 5.0, 0.004
-    # in cyclic modes other bits of the status word may be set, so its state is looked at
     script = (
-        "set {}_control 6", "repeat 2 cycle", "expect {}_status & 0x6F == 0x21", "set {}_control 7", "repeat 2 cycle",
-        "expect {}_status & 0x6F == 0x23", "set {}_control 15", "repeat 2 cycle", "expect {}_status & 0x6F == 0x27",
-        "set {}_target 4711", "repeat 8 cycle", "expect {}_position 4711", "plant {} position 4711", "set {}_target -300",
-        "repeat 8 cycle", "expect {}_position -300", "plant {} position -300", "plant {} axis 27")
+        *ENABLES, "expect {}_status & 0x1000 == 0x1000", "set {}_target 4711", "repeat 8 cycle", "expect {}_position 4711",
+        "plant {} position 4711", "set {}_target -300", "repeat 8 cycle", "expect {}_position -300", "plant {} position -300", "plant {} axis 27")
+    # without a mode it is enabled, and follows nothing [IEC 61800-7-201, 0x6060: 0 is no mode]
+    scanned = Trial(variables, (
+        *ENABLES, "expect {}_status & 0x1000 == 0", "set {}_target 4711", "repeat 8 cycle", "expect {}_position 0", "plant {} position 0",
+        "plant {} axis 27"))
 
     def begin(self) -> None:
         super().begin()
-        self.axis, self.position, self.control = DISABLED, 0, 0
+        self.axis, self.position, self.speed, self.control = DISABLED, 0, 0, 0
 
     def usual(self) -> dict[tuple[int, int], tuple[int, int]]:
-        return super().usual() | {(0x6502, 0): (MODES, 4)}
+        return super().usual() | {(0x6502, 0): (sum(1 << mode - 1 for mode in self.modes), 4)}
 
     def follow(self) -> None:
-        """A control word and a target came in OP."""
-        before, (self.control, target) = self.control, struct.unpack("<Hi", self.outside)
+        """Outputs came in OP. In a cyclic mode the target is a position, or how far the position goes on by a cycle."""
+        before, self.control = self.control, self.told(0x6040)
         self.axis = next_state(self.axis, self.control, before)
-        if self.follows():
-            self.position += max(-STRIDE, min(STRIDE, target - self.position))
+        wanted = self.told(TARGETS[self.mode]) - self.position * (self.mode == CSP) if self.follows() else 0
+        self.speed = max(-STRIDE, min(STRIDE, wanted))
+        self.position += self.speed
+
+    @property
+    def mode(self) -> int:
+        return self.objects[0x6060, 0][0]
 
     def follows(self) -> bool:
-        return self.axis == ENABLED and self.objects[0x6060, 0] == bytes([CSP])
+        """It is enabled, and the target of its mode is mapped."""
+        return self.axis == ENABLED and self.mode in self.modes and (TARGETS[self.mode], 0) in places_of(self.assigned(0))
+
+    def told(self, index: int) -> int:
+        """The value of an object among its outputs, with its sign; 0 if it isn't mapped."""
+        at, bits = places_of(self.assigned(0)).get((index, 0), (0, 1))
+        value = int.from_bytes(self.outside, "little") >> at & (1 << bits) - 1
+        return value - (value >> bits - 1 << bits) if bits > 1 else 0
 
     def enter(self, state: int) -> None:
         """Out of OP nothing moves. A fault stays until it is reset."""
         super().enter(state)
         if state != OP:
-            self.axis, self.control = (self.axis if self.axis == FAULT else DISABLED), 0
+            self.axis, self.speed, self.control = (self.axis if self.axis == FAULT else DISABLED), 0, 0
 
     def fall(self, code: int) -> None:
         """Without outputs it has a fault [IEC 61800-7-201, transition 13 and, once it stands still, 14]."""
@@ -590,7 +674,11 @@ class Drive(Coe):
         self.axis = FAULT
 
     def measured(self) -> bytes:
-        return struct.pack("<Hi", self.axis | REMOTE | FOLLOWS * self.follows(), self.position)
+        """Its status word, and its position or speed, as they are mapped."""
+        values = {0x6041: self.axis | REMOTE | FOLLOWS * self.follows(), 0x6064: self.position, 0x606C: self.speed}
+        pdos = self.assigned(1)
+        whole = sum((values[index] & (1 << bits) - 1) << at for (index, _), (at, bits) in places_of(pdos).items())
+        return whole.to_bytes(bytes_of(sum(pdo.bits for pdo in pdos)), "little")
 
     def looks(self) -> dict[str, str]:
         return super().looks() | {"position": str(self.position), "axis": f"{self.axis:02x}"}
@@ -624,11 +712,21 @@ class DriveRemapped(Drive):
     """As delivered it maps a speed and not a position; its mapping is written by its table, as masters do for drives: the assignment is
     emptied, the objects are rewritten, and their counts come last [IEC 61800-7-301; IgH `ecrt_slave_config_pdos`]."""
 
-    product, maps = 0x0404, True
+    product, maps, modes = 0x0404, True, (CSP, CSV)
     mapped = {0x1600: ((0x6040, 0, 16), (0x60FF, 0, 32)), 0x1A00: ((0x6041, 0, 16), (0x606C, 0, 32))}
     init = (
         (0x1C12, 0, 8, 0), (0x1C13, 0, 8, 0), (0x1600, 0, 8, 0), (0x1600, 1, 32, 0x60400010), (0x1600, 2, 32, 0x607A0020), (0x1600, 0, 8, 2),
         (0x1A00, 0, 8, 0), (0x1A00, 1, 32, 0x60410010), (0x1A00, 2, 32, 0x60640020), (0x1A00, 0, 8, 2), *Drive.init)
+    # as delivered it takes a speed and shows its own, which follows in mode 9
+    speeds = (Variable("control", ((0x6040, 0),), 0), Variable("wanted", ((0x60FF, 0),), 0),
+              Variable("status", ((0x6041, 0),), 0), Variable("speed", ((0x606C, 0),), 0))
+    scanned = Trial(speeds, (
+        *ENABLES, "expect {}_status & 0x1000 == 0", "set {}_wanted 700", "repeat 8 cycle", "expect {}_speed 0", "plant {} position 0",
+        "plant {} axis 27"))
+    completed = Trial(speeds, (
+        *ENABLES, "expect {}_status & 0x1000 == 0x1000", "set {}_wanted 700", "repeat 8 cycle", "expect {}_speed 700", "set {}_wanted -300",
+        "repeat 8 cycle", "expect {}_speed -300", "set {}_wanted 0", "repeat 8 cycle", "expect {}_speed 0", "plant {} axis 27"),
+        init=((0x6060, 0, 8, CSV), (0x60C2, 1, 8, 2)))
 
 
 class DriveShouting(Drive):

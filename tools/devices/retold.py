@@ -1,5 +1,5 @@
-"""A start-up of real devices retold in the order that a table for hardware asks for, so that the ends in rows.py can be tried without
-the program: it goes by the data sheets, numbers its steps as the master does, and ends with the master's words.
+"""A start-up of real devices retold in the order that a table for hardware asks for, and a scan, so that the ends in rows.py can be tried
+without the program: they go by the data sheets, number their steps as the master does, and end with the master's words.
 
 Sources: ETG.1000.4 "Register description", ETG.1000.6 "AL state machine", "SDO services"; who has the SII, clears over all registers and
 outputs before OP as SOEM does them; parameters in PREOP as SOEM's `PO2SOconfig` and IgH's `ecrt_slave_config_sdo`.
@@ -11,7 +11,7 @@ from collections.abc import Callable, Iterator
 
 from bus import sdo
 from coe import INPUTS_ASSIGNED, OUTPUTS_ASSIGNED
-from esc import APWR, BRD, BWR, FPRD, FPWR, LRD, LWR
+from esc import APWR, BRD, BWR, FPRD, FPWR, LRD, LRW, LWR, NO_LRW
 from plant import POLLS
 from slave import OP, PREOP, SAFEOP, Slave, bytes_of, places_of
 
@@ -20,6 +20,10 @@ LOGICAL = 0x10000
 
 class Refusal(Exception):
     """The start-up ends with this."""
+
+
+class Aborted(Refusal):
+    """A transfer was aborted."""
 
 
 def size_of(kind: type[Slave], way: int) -> int:
@@ -31,6 +35,18 @@ def can_say(kind: type[Slave]) -> bool:
     entries = [entry for pdo in (*kind.outputs, *kind.inputs) for entry in pdo.entries]
     areas = [area for area, pdos in ((kind.out_area, kind.outputs), (kind.in_area, kind.inputs)) if pdos]
     return all(bits <= 64 for _, _, bits in entries) and all(area.number <= 3 for area in areas) and len(kind.init) <= 64
+
+
+def refusal(kinds: list[type[Slave]]) -> str | None:
+    """Why a table of devices isn't accepted, if it isn't: it can't say a type, or a slave has an entry twice in a direction."""
+    if not all(can_say(kind) for kind in kinds):
+        return "13 BadValue 1 0"
+    for place, kind in enumerate(kinds):
+        for way in (0, 1):
+            entries = [entry[:2] for pdo in kind.chosen(way) for entry in pdo.entries if entry[0]]
+            if len(set(entries)) < len(entries):
+                return f"20 EntryTwice {place}"
+    return None
 
 
 class Master:
@@ -46,6 +62,7 @@ class Master:
                 at += size_of(kind, way)
         self.sizes = [sum(size_of(kind, way) for kind in kinds) for way in (0, 1)]
         self.counts = [sum(bool(size_of(kind, way)) for kind in kinds) for way in (0, 1)]
+        self.has_lrw = all(kind.told_lrw or not kind.chip.features & NO_LRW for kind in kinds)
         self.image = [bytearray(size) for size in self.sizes]
         self.sent = [0] * len(kinds)
 
@@ -83,8 +100,8 @@ class Master:
     # ---- the phases
 
     def start_up(self) -> str:
-        if not all(can_say(kind) for kind in self.kinds):
-            return "13 BadValue 1 0"
+        if (refused := refusal(self.kinds)):
+            return refused
         try:
             self.open()
             self.identify()
@@ -118,13 +135,14 @@ class Master:
 
     def identify(self) -> None:
         for place, kind in self.each():
-            words = [self.sii(place, address) for address in (0x08, 0x0A, 0x0C)]
+            words = [self.sii(place, address) or 0 for address in (0x08, 0x0A, 0x0C)]
             told = kind.revision if kind.told_revision is None else kind.told_revision
             if words != [kind.vendor, kind.product, words[2] if kind.any_revision else told]:
                 raise Refusal("27 Identity %d %d %d %d" % (place, *words))
         self.do(BWR, 0, 0x0500, b"\1", None)
 
-    def sii(self, place: int, address: int) -> int:
+    def sii(self, place: int, address: int) -> int | None:
+        """Two words of the SII, or nothing if it ends with an error, which is cleared."""
         came = b""
 
         def poll() -> bool:
@@ -134,21 +152,27 @@ class Master:
 
         self.write(place, 0x0502, struct.pack("<BBI", 0, 1, address))
         self.wait(poll)
-        return struct.unpack_from("<I", came, 6)[0]
+        return None if came[1] & 0x20 else struct.unpack_from("<I", came, 6)[0]
 
     def prepare(self) -> None:
         for place, kind in self.each():
             if kind.mailbox:
-                first, size, second, room = kind.mailbox
-                self.write(place, 0x0800, struct.pack("<HHBBBB", first, size, 0x26, 0, 1, 0))
-                self.write(place, 0x0808, struct.pack("<HHBBBB", second, room, 0x22, 0, 1, 0))
+                self.open_mailbox(place, kind)
         for place, _ in self.each():
             self.climb(place, PREOP)
+
+    def open_mailbox(self, place: int, kind: type[Slave]) -> None:
+        first, size, second, room = kind.mailbox
+        self.write(place, 0x0800, struct.pack("<HHBBBB", first, size, 0x26, 0, 1, 0))
+        self.write(place, 0x0808, struct.pack("<HHBBBB", second, room, 0x22, 0, 1, 0))
 
     def climb(self, place: int, state: int) -> None:
         """A state is asked for and awaited. Before each frame that has to do with OP all outputs are fed with zeros."""
         def feed() -> None:
-            if state == OP and self.sizes[0] and self.bus.send(LWR, LOGICAL, bytes(self.sizes[0]))[1] != self.counts[0]:
+            if state != OP or not self.sizes[0]:
+                return
+            command, size, count = (LRW, sum(self.sizes), 2 * self.counts[0] + self.counts[1]) if self.has_lrw else (LWR, self.sizes[0], self.counts[0])
+            if self.bus.send(command, LOGICAL, bytes(size))[1] != count:
                 raise Refusal(f"28 Counter {self.step}")
 
         def poll() -> bool:
@@ -194,14 +218,18 @@ class Master:
             raise Refusal(f"9 BadMailbox {place}")
 
     def upload(self, place: int, index: int, sub: int, size: int, wanted: int) -> None:
-        """The value must be the wanted one, whatever size its reply says; a reply that says none has as many bytes as the object."""
+        """The value must be the wanted one."""
+        value = self.value(place, index, sub, size)
+        if value != wanted:
+            raise Refusal(f"38 Mapping {place} {index} {sub} {value}")
+
+    def value(self, place: int, index: int, sub: int, size: int) -> int:
+        """A value, of whatever size its reply says; one that says none has as many bytes as the object."""
         came = self.converse(place, 0x40, index, sub, bytes(4))
         if came[0] & 0xE2 != 0x42:
             raise Refusal(f"9 BadMailbox {place}")
         size = 4 - (came[0] >> 2 & 3) if came[0] & 1 else size
-        value = int.from_bytes(came[4 : 4 + size], "little")
-        if value != wanted:
-            raise Refusal(f"38 Mapping {place} {index} {sub} {value}")
+        return int.from_bytes(came[4 : 4 + size], "little")
 
     def converse(self, place: int, command: int, index: int, sub: int, content: bytes) -> bytes:
         """A request and its reply, from the command on. A message of another protocol, or that is no SDO, is set aside."""
@@ -221,7 +249,7 @@ class Master:
         if struct.unpack_from("<HB", came, 9) != (index, sub):
             raise Refusal(f"9 BadMailbox {place}")
         if came[8] == 0x80:
-            raise Refusal(f"30 Abort {place} {struct.unpack_from('<I', came, 12)[0]}")
+            raise Aborted(f"30 Abort {place} {struct.unpack_from('<I', came, 12)[0]}")
         return came[8:16]
 
     # ---- process data
@@ -268,3 +296,38 @@ class Master:
             whole = whole & ~((1 << bits) - 1 << first) | (value & (1 << bits) - 1) << first
             value >>= bits
         self.image[way][:] = whole.to_bytes(len(self.image[way]), "little")
+
+
+class Scanner(Master):
+    """It asks the devices what they exchange, as a scan does: each SII, and by CoE the assigned PDOs and their mapping."""
+
+    def scan(self) -> str:
+        """How it ends. Whatever comes, all are asked for INIT."""
+        try:
+            self.open()
+            for place, _ in self.each():
+                if None in [self.sii(place, address) for address in (0x08, 0x0A, 0x0C, 0x0E, 0x18, 0x1A, 0x1C)]:
+                    raise Refusal(f"27 Identity {place} 0 0 0")
+            self.do(BWR, 0, 0x0500, b"\1", None)
+            for place, kind in self.each():
+                if kind.mailbox:
+                    self.ask(place, kind)
+        except Refusal as why:
+            return str(why)
+        finally:
+            self.bus.physical(BWR, 0, 0x0120, b"\x11\0")
+        return "found"
+
+    def ask(self, place: int, kind: type[Slave]) -> None:
+        """A device in PREOP is asked. It may lack an assignment; what it names must be there."""
+        self.open_mailbox(place, kind)
+        self.climb(place, PREOP)
+        for index in (OUTPUTS_ASSIGNED, INPUTS_ASSIGNED):
+            try:
+                count = self.value(place, index, 0, 4)
+            except Aborted:
+                continue
+            for slot in range(1, count + 1):
+                pdo = self.value(place, index, slot, 4)
+                for sub in range(1, self.value(place, pdo, 0, 4) + 1):
+                    self.value(place, pdo, sub, 4)

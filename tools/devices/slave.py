@@ -52,6 +52,16 @@ class Variable:
     value: int
 
 
+@dataclass(frozen=True)
+class Trial:
+    """What is tried with a device by another table than its own: variables, which are set and expected unless there are lines; and
+    parameters of its type."""
+
+    variables: tuple[Variable, ...]
+    script: tuple[str, ...] | None = None
+    init: tuple[tuple[int, int, int, int], ...] = ()
+
+
 def bytes_of(bits: int) -> int:
     return (bits + 7) // 8
 
@@ -91,10 +101,11 @@ class Slave:
     inputs: tuple[Pdo, ...] = ()
     out_area, in_area = Area(2, 0x1100, 0x24), Area(3, 0x1180, 0x20)
     variables: tuple[Variable, ...] = ()
-    # what a link table says otherwise: PDOs that it assigns, the revision, where outputs begin
+    # what a link table says otherwise: PDOs that it assigns, the revision, where outputs begin, that it takes part in LRW
     assigns: tuple[tuple[int, ...], tuple[int, ...]] | None = None
     told_revision: int | None = None
     told_out_start: int | None = None
+    told_lrw = False
     # of a table for hardware alone: SDO downloads of the type, those of the slave behind them, and that the revision doesn't matter
     init: tuple[tuple[int, int, int, int], ...] = ()
     own_init: tuple[tuple[int, int, int, int], ...] = ()
@@ -103,6 +114,12 @@ class Slave:
     is_boasting = False
     # lines of its trial, in which `{}` is its name; without any its variables are set and expected
     script: tuple[str, ...] | None = None
+    # its trial by the table that a scan finds, and by this with parameters, if either isn't that by its own table
+    scanned: Trial | None = None
+    completed: Trial | None = None
+    # what that table says otherwise than the device is, by attribute: `outputs`, `inputs` and areas, if a table can't say them; the
+    # PDOs that it leaves out of the assignment
+    said: dict[str, object] = {}
     # how a former master or tool left it: a state, and an AL status code if it has an error; whether the SII is the PDI's, or has an error
     left: tuple[int, int] = (INIT, 0)
     sii_is_given = sii_has_failed = False

@@ -42,7 +42,7 @@ def type_lines(kind: type[Slave], is_hardware: bool) -> list[str]:
     lines.append(f"out_start = 0x{out_start if kind.outputs else 0:04X}")
     lines.append(f"in_start = 0x{kind.in_area.start if kind.inputs else 0:04X}")
     lines += object_lines("rxpdo", kind.outputs) + object_lines("txpdo", kind.inputs)
-    if kind.chip.features & 0x0200:
+    if kind.chip.features & 0x0200 and not kind.told_lrw:
         lines.append("lrw = false")
     return lines + (hardware_lines(kind) if is_hardware else [])
 

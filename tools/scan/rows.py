@@ -90,6 +90,23 @@ DO8 = Row(
     ],
     output_bytes=1, input_bytes=0, lrw=True, categories=[(10, 3), (30, 16), (40, 2), (41, 16), (51, 64)], end=0xAF, size=2)
 
+# ---- examples/press/press.toml
+
+# 2 + 3 bytes of the string are 3 words; an object of three entries has 16. 0x40 + 5 + 18 + 4 + 18 + 18 = 0x7F, and 0x81 words are three
+# kibibits.
+DI2 = Row(
+    name="di2", identity=(0x5A5, 0x0102, 1, 0), mailbox=None, out_start=0, in_start=0x1000,
+    outputs=[], inputs=[(0x1A00, [(0x6000, 1, 1), (0x6000, 2, 1), (0, 0, 6)])],
+    output_bytes=0, input_bytes=1, lrw=True, categories=[(10, 3), (30, 16), (40, 2), (41, 16), (50, 16)], end=0x7F, size=2)
+
+# 2 + 5 bytes of the string are 4 words. 8 bits of outputs; 24 bits of inputs are 3 bytes. The object of four entries has 20 words, that of
+# two 12. 0x40 + 6 + 18 + 4 + 18 + 22 + 14 = 0x92, and 0x94 words are three kibibits.
+PRESS = Row(
+    name="press", identity=(0x5A5, 0x0303, 1, 0), mailbox=None, out_start=0x1000, in_start=0x1100,
+    outputs=[(0x1600, [(0x7000, 1, 1), (0, 0, 7)])],
+    inputs=[(0x1A00, [(0x6000, 1, 1), (0x6000, 2, 1), (0, 0, 6), (0x6010, 1, 16)])],
+    output_bytes=1, input_bytes=3, lrw=True, categories=[(10, 4), (30, 16), (40, 2), (41, 16), (50, 20), (51, 12)], end=0x92, size=2)
+
 # ---- tools/scan/data/axis.toml: an axis with mailboxes and both directions, lamps that are written alone and have no mailbox, and an eye
 # that is read alone and takes no part in LRW. The axis assigns one of its two objects of outputs alone.
 
@@ -145,6 +162,8 @@ MACHINES = {
     "small_machine": Machine("examples/small_machine.toml", [PANEL, ANALOG2]),
     # found by `ecat scan` alone
     "three_slaves": Machine("examples/three_slaves.toml", []),
+    "three_slaves_inline": Machine("examples/three_slaves_inline.toml", []),
+    "press": Machine("examples/press/press.toml", [DI2, PRESS]),
     "terminals": Machine("examples/terminals.toml", [COUPLER, DI8, DO8, DI8, DO8]),
     "axis": Machine("tools/scan/data/axis.toml", [AXIS, LAMPS, EYE]),
     "kibibit": Machine("tools/scan/data/kibibit.toml", [DI3]),

@@ -1,10 +1,14 @@
 -- How a scan ends.
-use Rattle.std.proofs.Common.{◌≡◌, ◌∙◌, ℕ, Bool, List, Result, Ok, Err, inl, inr, refl, sym, ap, subst}
+use Rattle.std.proofs.Common.{◌≡◌, ◌∙◌, ℕ, Bool, List, [], Result, Ok, Err, inl, inr, refl, sym, ap, subst}
 use Rattle.std.specs.Prelude.{IsErrAnd}
 use Rattle.ec_table.specs.Contents.{Contents}
 use Rattle.ec_console.specs.declared.refusal.Refusal.{Refusal}
 use Rattle.ec_console.specs.declared.refusal.Refusal.TheVariants.{Output}
+use Rattle.ec_console.specs.Explaining.{Behind, IsLeft}
 use Rattle.ec_console.specs.Printing.{IsCutOff, IsPrinted, OutputState}
+use Rattle.ec_wire.specs.Taps.{IsTraceOf}
+use Rattle.ec_wire.specs.Wires.{Nothing, Number, Payloads, Trace}
+use Rattle.ec_scan.specs.Lines.{IsFresh}
 use Rattle.ec_scan.specs.declared.shown.Shown.{Shown}
 use Rattle.ec_found.specs.declared.found.Found.{Found}
 use Rattle.ec_found.specs.Differing.{agrees}
@@ -38,3 +42,13 @@ pub all_compared : (c : Contents) (r : Result Unit Refusal) (shown : List Shown)
     → said ≡ text → r ≡ against_end agreed said → IsPrinted old new text → RunsAgainst c old new r
 all_compared c r shown fs gs agreed text said old new found same agree whole is printed =
     inr (inr (shown, fs, text, found, is ∙ ap (against_end agreed) whole ∙ ap (λ (b : Bool). against_end b text) (agree ∙ ap (agrees c) same), printed))
+
+-- an explanation that is left twice
+pub left_twice : (first middle last : Behind) → IsLeft first middle → IsLeft middle last → IsLeft first last
+left_twice first middle last one two unwanted = two (ap (λ (b : Behind). b.is_wanted) (one unwanted) ∙ unwanted) ∙ one unwanted
+
+-- a wire that has sent nothing can be noted from now on
+pub fresh_trace : (t : Trace) → IsFresh t → IsTraceOf t []
+fresh_trace Nothing fresh = tt
+fresh_trace (Number told) fresh = tt
+fresh_trace (Payloads told) fresh = fresh

@@ -1,20 +1,24 @@
 //! `ecat scan` over a socket or a card.
-ghost use Rattle.std.specs.Prelude.{◌≡◌, IfErr, IfOk};
+ghost use Rattle.std.specs.Prelude.{◌≡◌, [], IfErr, IfOk, is_some};
 ghost use Rattle.std.specs.String.{string_bytes};
 ghost use Rattle.cmd_scan.specs.Scans.{AreFound, IsScanOf, IsScanRefusal, RunsAgainst, RunsScan, against_end, first_unsaid, line_ends, unsaid_end};
 ghost use Rattle.ec_console.specs.Explaining.{IsLeft};
 ghost use Rattle.ec_scan.specs.Lines.{IsFresh};
+ghost use Rattle.ec_wire.specs.Taps.{IsTraceOf};
 
 use crate::finding::{Seen, found_all};
+use crate::why::{ScanFault, fault_text, unprinted_text};
 use cmd_master::connect;
 use ec_card::{CardWire, Sender};
-use ec_console::{Explanation, OutputStream, Refusal, print_text};
+use ec_console::{Capture, Explanation, OutputStream, Refusal, print_text};
 use ec_found::{Found, FoundError, agrees, differences_text, printed, unsaid_text};
 use ec_link::MachineError;
 use ec_scan::{Line, ScanError, Shown, scan};
+use ec_start::Action;
 use ec_table::Table;
-use ec_wire::{Patience, Resting, Wire};
+use ec_wire::{CapturedWire, Patience, Resting, Side, Trouble, Wire};
 use std::alloc::Global;
+use std::fs::Files;
 use std::io::Write;
 use std::net::Net;
 use std::time::Clock;
@@ -30,44 +34,51 @@ pub struct ScanOptions<'a> {
 }
 
 /// Scans a segment and prints a link table of its slaves. The table was read back before: it states the slaves that were found, and has
-/// a plan. What a table can't say of the slaves is explained in `behind`, if that is wanted.
+/// a plan. What the scan sends and receives goes into an open capture, if there is one. `behind` explains why the scan failed, or what a
+/// table can't say of the slaves, if that is wanted.
 ///
 /// # Errors
 ///
 /// `Refusal::Socket` if there is no such socket. `Refusal::Start` if the scan failed, as a start-up would. `Refusal::Link` if the slaves
 /// have no plan together. `Refusal::Unsaid` if a table can't say all of a slave; the table is printed then. `Refusal::Memory` or
 /// `Refusal::Output` if memory or a write was refused.
-pub fn run_scan<H: AllocGlobal + Net + Clock, W: Write + Drop>(
+pub fn run_scan<H: AllocGlobal + Net + Files + Clock, W: Write + Drop>(
     rt: &H,
     options: ScanOptions<'_>,
+    capture: &mut Capture<H::File>,
     output: &mut OutputStream<W>,
     behind: &mut Explanation,
 ) -> Result<(), Refusal>
     ensures runs { RunsScan output.old output.new result }
+    ensures still_open { is_some capture.new ≡ is_some capture.old }
     ensures explains { IsLeft behind.old behind.new }
 {
-    let seen = scan_at(rt, options)?;
-    let text = text_of(rt.alloc(), &seen)?;
+    let seen = scan_at(rt, options, capture, behind)?;
+    let text = text_of(rt.alloc(), &seen, behind)?;
     print_text(text.as_bytes(), output)?;
     let (shown, found) = (seen.shown.as_slice(), seen.found.as_slice());
     behind.explain_by(unsaid_text(rt.alloc(), shown, found));
     unsaid_end(found)
 }
 
-/// Scans a segment and prints what differs between its slaves and a table, a line each.
+/// Scans a segment, as [`run_scan`] does, and prints what differs between its slaves and a table, a line each.
 ///
 /// # Errors
 ///
 /// Those of [`run_scan`], and `Refusal::Unmet` with the number of lines if anything differs.
-pub fn run_against<H: AllocGlobal + Net + Clock, W: Write + Drop>(
+pub fn run_against<H: AllocGlobal + Net + Files + Clock, W: Write + Drop>(
     rt: &H,
     options: ScanOptions<'_>,
     table: &Table,
+    capture: &mut Capture<H::File>,
     output: &mut OutputStream<W>,
+    behind: &mut Explanation,
 ) -> Result<(), Refusal>
-    ensures { RunsAgainst table.now output.old output.new result }
+    ensures runs { RunsAgainst table.now output.old output.new result }
+    ensures still_open { is_some capture.new ≡ is_some capture.old }
+    ensures explains { IsLeft behind.old behind.new }
 {
-    let seen = scan_at(rt, options)?;
+    let seen = scan_at(rt, options, capture, behind)?;
     let text = differences_text(rt.alloc(), table, seen.found.as_slice())?;
     let agreed = agrees(rt.alloc(), table, seen.found.as_slice())?;
     print_text(text.as_bytes(), output)?;
@@ -75,58 +86,154 @@ pub fn run_against<H: AllocGlobal + Net + Clock, W: Write + Drop>(
 }
 
 /// Scans a segment over a socket or a card.
-fn scan_at<H: AllocGlobal + Net + Clock>(rt: &H, options: ScanOptions<'_>) -> Result<Seen, Refusal>
+fn scan_at<H: AllocGlobal + Net + Files + Clock>(
+    rt: &H,
+    options: ScanOptions<'_>,
+    capture: &mut Capture<H::File>,
+    behind: &mut Explanation,
+) -> Result<Seen, Refusal>
     ensures found { IfOk result (λ seen. AreFound seen.shown.items seen.found.items) }
     ensures refused { IfErr result IsScanRefusal }
+    ensures still_open { is_some capture.new ≡ is_some capture.old }
+    ensures explains { IsLeft behind.old behind.new }
 {
     match options.descriptor {
-        None => scan_over(rt, connect(rt, options.to, options.patience)?),
+        None => scan_tapped(
+            rt,
+            connect(rt, options.to, options.patience)?,
+            capture,
+            behind,
+        ),
         Some(descriptor) => {
             let patience = Patience::of_millis(options.patience);
             let wire = CardWire::of_descriptor(i32::from(descriptor), Sender::Master, patience)?;
-            scan_over(rt, wire)
+            scan_tapped(rt, wire, capture, behind)
         }
     }
 }
 
-/// Scans a segment over a wire that has sent nothing.
-fn scan_over<H: AllocGlobal + Clock, W: Wire + Drop>(rt: &H, wire: W) -> Result<Seen, Refusal>
-    requires { IsFresh (W.state wire).sent }
+/// Scans a segment over a wire that has carried nothing. If there is a capture, it notes what the wire carries.
+#[tactic(auto, using(crate::proofs::Ending::fresh_trace))]
+fn scan_tapped<H: AllocGlobal + Files + Clock, W: Wire + Drop>(
+    rt: &H,
+    wire: W,
+    capture: &mut Capture<H::File>,
+    behind: &mut Explanation,
+) -> Result<Seen, Refusal>
+    requires sent { IsFresh (W.state wire).sent }
+    requires received { IsTraceOf (W.state wire).received [] }
     ensures found { IfOk result (λ seen. AreFound seen.shown.items seen.found.items) }
     ensures refused { IfErr result IsScanRefusal }
+    ensures still_open { is_some capture.new ≡ is_some capture.old }
+    ensures explains { IsLeft behind.old behind.new }
 {
-    let mut line = Line::new(wire, Resting::new(rt));
-    let shown = shown_on(rt.alloc(), &mut line)?;
-    let found = found_all(rt.alloc(), shown.as_slice())?;
-    Ok(Seen { shown, found })
-}
-
-/// What the slaves on a line show.
-fn shown_on<W: Wire + Drop, C: Clock>(
-    alloc: Global,
-    line: &mut Line<W, Resting<'_, C>>,
-) -> Result<Vec<Shown>, Refusal>
-    ensures { IfErr result IsScanRefusal }
-{
-    match scan(alloc, line) {
-        Ok(shown) => Ok(shown),
-        Err(ScanError::Memory) => Err(Refusal::Memory),
-        Err(ScanError::Start(error)) => Err(Refusal::Start(error)),
+    match capture.take() {
+        None => {
+            let (seen, _) = scan_over(rt, wire, behind);
+            seen
+        }
+        Some(recording) => {
+            let tapped = CapturedWire::new(wire, recording, Side::Master, rt);
+            let (seen, tapped) = scan_over(rt, tapped, behind);
+            let (_, recording) = tapped.into_parts();
+            *capture = Some(recording);
+            seen
+        }
     }
 }
 
-/// The text of a table with the slaves that were found.
-fn text_of(alloc: Global, seen: &Seen) -> Result<String, Refusal>
+/// Scans a segment over a wire that has sent nothing, and returns the wire, too.
+fn scan_over<H: AllocGlobal + Clock, W: Wire + Drop>(
+    rt: &H,
+    wire: W,
+    behind: &mut Explanation,
+) -> (Result<Seen, Refusal>, W)
+    requires { IsFresh (W.state wire).sent }
+    ensures found { IfOk result.0 (λ seen. AreFound seen.shown.items seen.found.items) }
+    ensures refused { IfErr result.0 IsScanRefusal }
+    ensures explains { IsLeft behind.old behind.new }
+{
+    let mut line = Line::new(wire, Resting::new(rt));
+    let shown = scan(rt.alloc(), &mut line);
+    let asked = line.asked();
+    let wire = line.into_wire();
+    let shown = explained(rt.alloc(), shown, (asked, trouble_on(&wire)), behind);
+    (seen_of(rt.alloc(), shown), wire)
+}
+
+/// Why the last call of a wire that was a fault was one; `None` if none was.
+fn trouble_on<W: Wire>(wire: &W) -> Option<Trouble> {
+    if wire.failures() > 0 {
+        Some(wire.trouble())
+    } else {
+        None
+    }
+}
+
+/// What slaves show, or the refusal of a scan that failed, which is explained if that is wanted: by what was asked last, and by a fault of the
+/// wire.
+fn explained(
+    alloc: Global,
+    shown: Result<Vec<Shown>, ScanError>,
+    last: (Option<Action>, Option<Trouble>),
+    behind: &mut Explanation,
+) -> Result<Vec<Shown>, Refusal>
+    ensures refused { IfErr result IsScanRefusal }
+    ensures explains { IsLeft behind.old behind.new }
+{
+    match shown {
+        Ok(shown) => Ok(shown),
+        Err(ScanError::Memory) => Err(Refusal::Memory),
+        Err(ScanError::Start(error)) => {
+            let (asked, trouble) = last;
+            let fault = ScanFault {
+                error,
+                asked,
+                trouble,
+            };
+            behind.explain_by(fault_text(alloc, fault));
+            Err(Refusal::Start(error))
+        }
+    }
+}
+
+/// The slaves of a segment, by what each of them shows.
+fn seen_of(alloc: Global, shown: Result<Vec<Shown>, Refusal>) -> Result<Seen, Refusal>
+    requires { IfErr shown IsScanRefusal }
+    ensures found { IfOk result (λ seen. AreFound seen.shown.items seen.found.items) }
+    ensures refused { IfErr result IsScanRefusal }
+{
+    let shown = shown?;
+    let found = found_all(alloc, shown.as_slice())?;
+    Ok(Seen { shown, found })
+}
+
+/// The text of a table with the slaves that were found. If they have none that has a plan, `behind` explains that, if it is wanted.
+fn text_of(alloc: Global, seen: &Seen, behind: &mut Explanation) -> Result<String, Refusal>
     requires { AreFound seen.now.shown.items seen.now.found.items }
     ensures text { IfOk result (λ text. IsScanOf (string_bytes text) seen.now.found.items) }
     ensures refused { IfErr result IsScanRefusal }
+    ensures explains { IsLeft behind.old behind.new }
 {
     match printed(alloc, seen.shown.as_slice(), seen.found.as_slice()) {
         Ok(text) => Ok(text),
-        Err(FoundError::Memory) => Err(Refusal::Memory),
-        Err(FoundError::Refused(MachineError::Table(error))) => Err(Refusal::Table(error)),
-        Err(FoundError::Refused(MachineError::Link(error))) => Err(Refusal::Link(error)),
-        Err(FoundError::Otherwise(slave)) => Err(Refusal::Unsaid(slave)),
+        Err(error) => {
+            let refusal = refusal_of(error);
+            behind.explain_by(unprinted_text(alloc, seen, refusal));
+            Err(refusal)
+        }
+    }
+}
+
+/// The refusal of slaves whose table isn't printed.
+fn refusal_of(error: FoundError) -> Refusal
+    ensures { IsScanRefusal result }
+{
+    match error {
+        FoundError::Memory => Refusal::Memory,
+        FoundError::Refused(MachineError::Table(error)) => Refusal::Table(error),
+        FoundError::Refused(MachineError::Link(error)) => Refusal::Link(error),
+        FoundError::Otherwise(slave) => Refusal::Unsaid(slave),
     }
 }
 

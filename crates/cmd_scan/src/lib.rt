@@ -3,6 +3,9 @@
 
 mod command;
 mod finding;
+mod tap;
+mod why;
 
 pub use crate::command::{ScanOptions, run_against, run_scan};
 pub use crate::finding::{Seen, found_all};
+pub use crate::tap::open_scan_capture;

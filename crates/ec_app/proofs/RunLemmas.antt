@@ -58,7 +58,7 @@ input_left (SimOf l c e s) old new app_old app_new alone = tt
 input_left (LoopOf n c e) old new app_old app_new alone = tt
 input_left (SegmentOf a c e) old new app_old app_new alone = tt
 input_left (MasterOf t d p c e s) old new app_old app_new alone = tt
-input_left (ScanOf t d p a) old new app_old app_new alone = alone.0
+input_left (ScanOf t d p a k e) old new app_old app_new alone = alone.0
 
 pub app_left : {R A : Type 0} (command : Command) (old new : R) (app_old app_new : A) → LeavesAlone command old new app_old app_new → LeavesAppOf command app_old app_new
 app_left (PassOf n f) old new app_old app_new alone = alone.1
@@ -69,7 +69,7 @@ app_left (SimOf l c e s) old new app_old app_new alone = alone
 app_left (LoopOf n c e) old new app_old app_new alone = tt
 app_left (SegmentOf a c e) old new app_old app_new alone = alone
 app_left (MasterOf t d p c e s) old new app_old app_new alone = alone
-app_left (ScanOf t d p a) old new app_old app_new alone = alone.1
+app_left (ScanOf t d p a k e) old new app_old app_new alone = alone.1
 
 -- and an application that isn't run is left alone
 live_left : {A : Type 0} (live : Bool) (app : A) → LeavesIf live app app
@@ -85,7 +85,7 @@ app_kept (SimOf l c e s) app = refl
 app_kept (LoopOf n c e) app = tt
 app_kept (SegmentOf a c e) app = live_left a.live app
 app_kept (MasterOf t d p c e s) app = refl
-app_kept (ScanOf t d p a) app = refl
+app_kept (ScanOf t d p a k e) app = refl
 
 -- a command whose input is standard input, or that has one
 pub both_left : {R A : Type 0} (command : Command) (first second : Option (List ℕ)) (place : Places) (old new : R) (app_old app_new : A) → place ≡ places_of command first second
@@ -98,7 +98,7 @@ both_left (SimOf l c e s) first second place old new app_old app_new is input ap
 both_left (LoopOf n c e) first second place old new app_old app_new is input app = tt
 both_left (SegmentOf a c e) first second place old new app_old app_new is input app = app
 both_left (MasterOf t d p c e s) first second place old new app_old app_new is input app = app
-both_left (ScanOf t d p a) first second place old new app_old app_new is input app = (input is, app)
+both_left (ScanOf t d p a k e) first second place old new app_old app_new is input app = (input is, app)
 
 -- an explanation that is left twice
 pub left_twice : (first middle last : Behind) → IsLeft first middle → IsLeft middle last → IsLeft first last

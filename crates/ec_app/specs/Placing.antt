@@ -45,7 +45,7 @@ places_of (SimOf live capture explained strict) first second = place_of_both fir
 places_of (LoopOf cycles capture explained) first second = place_of_table first
 places_of (SegmentOf arguments capture explained) first second = place_of_table first
 places_of (MasterOf to descriptor patience capture explained strict) first second = place_of_both first second
-places_of (ScanOf to descriptor patience against) first second = AllStandard
+places_of (ScanOf to descriptor patience against capture explained) first second = AllStandard
 
 -- ---- terminals
 
@@ -63,7 +63,7 @@ reads_standard (SimOf live capture explained strict) first second = is_none firs
 reads_standard (LoopOf cycles capture explained) first second = is_none first
 reads_standard (SegmentOf arguments capture explained) first second = arguments.live || is_none first
 reads_standard (MasterOf to descriptor patience capture explained strict) first second = is_none first || is_none second
-reads_standard (ScanOf to descriptor patience against) first second = false
+reads_standard (ScanOf to descriptor patience against capture explained) first second = false
 
 -- it waits for someone who types
 abbrev pub waits : Terminals → Command → (first second : Option (List ℕ)) → Bool

@@ -164,7 +164,7 @@ Runs table (SegmentOf arguments capture explained) given output stderr ended =
     (octets : List ℕ) × IsBound arguments.bind octets × RunsSlaves table arguments.live arguments octets capture explained given output stderr ended
 Runs table (MasterOf to descriptor patience capture explained strict) given output stderr ended =
     RunsWork table takes.Lines Plain (RunsMaster (manner_of explained strict)) capture given output stderr ended
-Runs table (ScanOf to descriptor patience against) given output stderr ended = RunsScanWith against output.old output.new ended × IsQuiet stderr
+Runs table (ScanOf to descriptor patience against capture explained) given output stderr ended = RunsScanWith against capture output.old output.new ended × IsQuiet stderr
 
 -- ---- files
 
@@ -217,7 +217,7 @@ LeavesAlone (SimOf live capture explained strict) input_old input_new app_old ap
 LeavesAlone (LoopOf cycles capture explained) input_old input_new app_old app_new = Unit {0}
 LeavesAlone (SegmentOf arguments capture explained) input_old input_new app_old app_new = LeavesIf arguments.live app_old app_new
 LeavesAlone (MasterOf to descriptor patience capture explained strict) input_old input_new app_old app_new = app_new ≡ app_old
-LeavesAlone (ScanOf to descriptor patience against) input_old input_new app_old app_new = (input_new ≡ input_old) × (app_new ≡ app_old)
+LeavesAlone (ScanOf to descriptor patience against capture explained) input_old input_new app_old app_new = (input_new ≡ input_old) × (app_new ≡ app_old)
 
 -- of that, what a command leaves of the application
 abbrev pub LeavesAppOf : {A : Type 0} → Command → (old new : A) → Type 0
@@ -229,7 +229,7 @@ LeavesAppOf (SimOf live capture explained strict) old new = new ≡ old
 LeavesAppOf (LoopOf cycles capture explained) old new = Unit {0}
 LeavesAppOf (SegmentOf arguments capture explained) old new = LeavesIf arguments.live old new
 LeavesAppOf (MasterOf to descriptor patience capture explained strict) old new = new ≡ old
-LeavesAppOf (ScanOf to descriptor patience against) old new = new ≡ old
+LeavesAppOf (ScanOf to descriptor patience against capture explained) old new = new ≡ old
 
 -- what some work leaves alone: the application, unless it simulates slaves
 abbrev pub LeavesApp : {A : Type 0} → Work → (old new : A) → Type 0
@@ -329,7 +329,7 @@ LeavesInput (SimOf live capture explained strict) old new = Unit {0}
 LeavesInput (LoopOf cycles capture explained) old new = Unit {0}
 LeavesInput (SegmentOf arguments capture explained) old new = Unit {0}
 LeavesInput (MasterOf to descriptor patience capture explained strict) old new = Unit {0}
-LeavesInput (ScanOf to descriptor patience against) old new = new ≡ old
+LeavesInput (ScanOf to descriptor patience against capture explained) old new = new ≡ old
 
 -- what a run leaves of the input: all of it, too, if it prints a notice in place of a command
 abbrev pub EndsUnread : {R : Type 0} → Result Arguments Notice → (old new : R) → Type 0

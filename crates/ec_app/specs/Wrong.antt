@@ -28,14 +28,14 @@ IsRightAt (Some n) Right = Unit {0}
 abbrev pub IsWrong : Command → Wrong → Type 0
 IsWrong (SegmentOf arguments capture explained) wrong = IsWrongAt arguments.descriptor (IsAddress arguments.bind) Bind wrong
 IsWrong (MasterOf to descriptor patience capture explained strict) wrong = IsWrongAt descriptor (IsPeer to) To wrong
-IsWrong (ScanOf to descriptor patience against) wrong = IsWrongAt descriptor (IsPeer to) To wrong
+IsWrong (ScanOf to descriptor patience against capture explained) wrong = IsWrongAt descriptor (IsPeer to) To wrong
 IsWrong command wrong = ⊥
 
 -- or nothing is, but for what the system knows
 abbrev pub IsRight : Command → Type 0
 IsRight (SegmentOf arguments capture explained) = IsRightAt arguments.descriptor (IsAddress arguments.bind)
 IsRight (MasterOf to descriptor patience capture explained strict) = IsRightAt descriptor (IsPeer to)
-IsRight (ScanOf to descriptor patience against) = IsRightAt descriptor (IsPeer to)
+IsRight (ScanOf to descriptor patience against capture explained) = IsRightAt descriptor (IsPeer to)
 IsRight command = Unit {0}
 
 -- what the fault stream says of them

@@ -14,7 +14,7 @@ use crate::pass::print_pass;
 use crate::places::{Place, WAITING, explains, waits};
 use crate::plan::{PlanForm, prefix_or, print_plan};
 use crate::remarked::print_payloads;
-use crate::scan::print_scan;
+use crate::scan::{ScanFiles, print_scan};
 use crate::translate::print_encode;
 use crate::work::{Work, WorkInputs, run_work};
 use crate::wrong::wrong_of;
@@ -442,6 +442,8 @@ fn run_request<
             descriptor,
             patience,
             against,
+            capture,
+            ..
         } => {
             let options = ScanOptions {
                 to,
@@ -451,7 +453,7 @@ fn run_request<
             print_scan(
                 rt,
                 options,
-                against,
+                ScanFiles { against, capture },
                 &mut console.output,
                 &mut console.explanation,
             )

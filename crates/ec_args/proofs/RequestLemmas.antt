@@ -83,7 +83,7 @@ is_pass (SimOf l c e s) called = absurd (other_word (codes "sim") (codes "pass")
 is_pass (LoopOf n c e) called = absurd (other_word (codes "loop") (codes "pass") refl called)
 is_pass (SegmentOf a c e) called = absurd (other_word (codes "segment") (codes "pass") refl called)
 is_pass (MasterOf t d p c e s) called = absurd (other_word (codes "master") (codes "pass") refl called)
-is_pass (ScanOf t d p a) called = absurd (other_word (codes "scan") (codes "pass") refl called)
+is_pass (ScanOf t d p a k e) called = absurd (other_word (codes "scan") (codes "pass") refl called)
 
 pub is_plan : (command : Command) → word_of command ≡ codes "plan" → (h : Bool) × (p : Option Text) × (e : Bool) × (command ≡ PlanOf h p e)
 is_plan (PassOf n f) called = absurd (other_word (codes "pass") (codes "plan") refl called)
@@ -94,7 +94,7 @@ is_plan (SimOf l c e s) called = absurd (other_word (codes "sim") (codes "plan")
 is_plan (LoopOf n c e) called = absurd (other_word (codes "loop") (codes "plan") refl called)
 is_plan (SegmentOf a c e) called = absurd (other_word (codes "segment") (codes "plan") refl called)
 is_plan (MasterOf t d p c e s) called = absurd (other_word (codes "master") (codes "plan") refl called)
-is_plan (ScanOf t d p a) called = absurd (other_word (codes "scan") (codes "plan") refl called)
+is_plan (ScanOf t d p a k e) called = absurd (other_word (codes "scan") (codes "plan") refl called)
 
 pub is_loop : (command : Command) → word_of command ≡ codes "loop" → (n : ℕ) × (c : Option Text) × (e : Bool) × (command ≡ LoopOf n c e)
 is_loop (PassOf n f) called = absurd (other_word (codes "pass") (codes "loop") refl called)
@@ -105,7 +105,7 @@ is_loop (SimOf l c e s) called = absurd (other_word (codes "sim") (codes "loop")
 is_loop (LoopOf n c e) called = (n, c, e, refl)
 is_loop (SegmentOf a c e) called = absurd (other_word (codes "segment") (codes "loop") refl called)
 is_loop (MasterOf t d p c e s) called = absurd (other_word (codes "master") (codes "loop") refl called)
-is_loop (ScanOf t d p a) called = absurd (other_word (codes "scan") (codes "loop") refl called)
+is_loop (ScanOf t d p a k e) called = absurd (other_word (codes "scan") (codes "loop") refl called)
 
 pub is_segment : (command : Command) → word_of command ≡ codes "segment" → (a : SegmentArguments) × (c : Option Text) × (e : Bool) × (command ≡ SegmentOf a c e)
 is_segment (PassOf n f) called = absurd (other_word (codes "pass") (codes "segment") refl called)
@@ -116,7 +116,7 @@ is_segment (SimOf l c e s) called = absurd (other_word (codes "sim") (codes "seg
 is_segment (LoopOf n c e) called = absurd (other_word (codes "loop") (codes "segment") refl called)
 is_segment (SegmentOf a c e) called = (a, c, e, refl)
 is_segment (MasterOf t d p c e s) called = absurd (other_word (codes "master") (codes "segment") refl called)
-is_segment (ScanOf t d p a) called = absurd (other_word (codes "scan") (codes "segment") refl called)
+is_segment (ScanOf t d p a k e) called = absurd (other_word (codes "scan") (codes "segment") refl called)
 
 pub is_master : (command : Command) → word_of command ≡ codes "master" → (t : Text) × (d : Option ℕ) × (p : ℕ) × (c : Option Text) × (e : Bool) × (s : Bool) × (command ≡ MasterOf t d p c e s)
 is_master (PassOf n f) called = absurd (other_word (codes "pass") (codes "master") refl called)
@@ -127,9 +127,9 @@ is_master (SimOf l c e s) called = absurd (other_word (codes "sim") (codes "mast
 is_master (LoopOf n c e) called = absurd (other_word (codes "loop") (codes "master") refl called)
 is_master (SegmentOf a c e) called = absurd (other_word (codes "segment") (codes "master") refl called)
 is_master (MasterOf t d p c e s) called = (t, d, p, c, e, s, refl)
-is_master (ScanOf t d p a) called = absurd (other_word (codes "scan") (codes "master") refl called)
+is_master (ScanOf t d p a k e) called = absurd (other_word (codes "scan") (codes "master") refl called)
 
-pub is_scan : (command : Command) → word_of command ≡ codes "scan" → (t : Text) × (d : Option ℕ) × (p : ℕ) × (a : Option Text) × (command ≡ ScanOf t d p a)
+pub is_scan : (command : Command) → word_of command ≡ codes "scan" → (t : Text) × (d : Option ℕ) × (p : ℕ) × (a : Option Text) × (k : Option Text) × (e : Bool) × (command ≡ ScanOf t d p a k e)
 is_scan (PassOf n f) called = absurd (other_word (codes "pass") (codes "scan") refl called)
 is_scan (PlanOf h p e) called = absurd (other_word (codes "plan") (codes "scan") refl called)
 is_scan (DecodeOf t e) called = absurd (other_word (codes "decode") (codes "scan") refl called)
@@ -138,7 +138,7 @@ is_scan (SimOf l c e s) called = absurd (other_word (codes "sim") (codes "scan")
 is_scan (LoopOf n c e) called = absurd (other_word (codes "loop") (codes "scan") refl called)
 is_scan (SegmentOf a c e) called = absurd (other_word (codes "segment") (codes "scan") refl called)
 is_scan (MasterOf t d p c e s) called = absurd (other_word (codes "master") (codes "scan") refl called)
-is_scan (ScanOf t d p a) called = (t, d, p, a, refl)
+is_scan (ScanOf t d p a k e) called = (t, d, p, a, k, e, refl)
 
 -- what is found for the arguments of a command of this name is what `clap` met
 pub asked_one : (name word : Text) (rows : List Row) (request : Request) → name ≡ word → IsAskedAs word rows request → Asks (Some (name, rows)) request
@@ -171,7 +171,7 @@ no_such_word name rows pass plan decode encode sim loop segment master scan (Sim
 no_such_word name rows pass plan decode encode sim loop segment master scan (LoopOf n c e, met) = loop (ap name_in met.named)
 no_such_word name rows pass plan decode encode sim loop segment master scan (SegmentOf a c e, met) = segment (ap name_in met.named)
 no_such_word name rows pass plan decode encode sim loop segment master scan (MasterOf t d p c e s, met) = master (ap name_in met.named)
-no_such_word name rows pass plan decode encode sim loop segment master scan (ScanOf t d p a, met) = scan (ap name_in met.named)
+no_such_word name rows pass plan decode encode sim loop segment master scan (ScanOf t d p a k e, met) = scan (ap name_in met.named)
 
 -- a number that `get_one` read, one that it may leave out, a text that `get_str` read, and a flag
 pub finds_number : (found : Found) (id : Text) (bits : ℕ) (r : Option ℕ) (n : ℕ) → (one_text found id ≡ None → r ≡ None)
@@ -269,13 +269,13 @@ no_patience found r value is command called h =
 pub scan_no_to : (found : Found) → first_value found (codes "to") ≡ None → IsNeverAsked (codes "scan") (rows_of found)
 scan_no_to found none command called h =
     let it = is_scan command called in
-    no_text found (codes "to") it.0 none (subst (Finds (rows_of found)) it.4 h).for_to
+    no_text found (codes "to") it.0 none (subst (Finds (rows_of found)) it.6 h).for_to
 
 pub scan_no_patience : (found : Found) (r : Option ℕ) → ((t : List ℕ) → one_text found (codes "patience") ≡ Some t → ReadsOne (NumberGives 16) t r) → r ≡ None
     → IsNeverAsked (codes "scan") (rows_of found)
 scan_no_patience found r value is command called h =
     let it = is_scan command called in
-    finds_no_number found (codes "patience") 16 r it.2 value is (subst (Finds (rows_of found)) it.4 h).for_patience
+    finds_no_number found (codes "patience") 16 r it.2 value is (subst (Finds (rows_of found)) it.6 h).for_patience
 
 -- what `clap` makes of the arguments of `pass`
 pub no_fault-pass : (args : List Text) (slaves : ℕ) (frame : Text) → ArePassArguments args slaves frame → fault_of ecat args ≡ []

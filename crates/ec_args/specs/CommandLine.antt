@@ -176,12 +176,15 @@ asking = with_rule (with_rule reaching patience_rule) capture_rule
 abbrev pub master_shape : Shape
 master_shape = (with_rule (with_input (with_rule (with_rule asking strict_rule) explain_rule)) lines_rule).top
 
--- which segment is scanned, how long a scan waits for answers, and the table that it is compared with
+-- which segment is scanned, how long a scan waits for answers, the table that it is compared with, and its capture
 abbrev pub scanning : App
 scanning = with_rule (with_rule (new_app (codes "scan")) to_rule) descriptor_rule
 
+abbrev pub comparing : App
+comparing = with_rule (with_rule scanning patience_rule) against_rule
+
 abbrev pub scan_shape : Shape
-scan_shape = (with_rule (with_rule scanning patience_rule) against_rule).top
+scan_shape = (with_rule (with_rule (with_rule comparing capture_rule) explain_rule) terse_rule).top
 
 -- `ecat` and its commands, one of which must be given; it also has a version. First those that simulate nothing but a pass,
 abbrev pub planning : App

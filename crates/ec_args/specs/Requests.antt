@@ -58,8 +58,9 @@ pub data Command : Type 0 where
   -- `ecat master`: the text of a segment's address and port, and the descriptor that replaces it if one is given. Then how many
   -- milliseconds it waits for an answer, and at the end what `ecat sim` has there
   MasterOf : Text → Option ℕ → ℕ → Option Text → Bool → Bool → Command
-  -- `ecat scan`: the segment and the patience as of `ecat master`, and the file of a table that it compares with, if one is named
-  ScanOf : Text → Option ℕ → ℕ → Option Text → Command
+  -- `ecat scan`: the segment and the patience as of `ecat master`, the file of a table that it compares with if one is named, the file of
+  -- a capture if one is named, and whether a refusal is explained
+  ScanOf : Text → Option ℕ → ℕ → Option Text → Option Text → Bool → Command
 
 -- the word that asks for a command
 abbrev pub word_of : Command → Text
@@ -71,7 +72,7 @@ word_of (SimOf live capture explained strict) = codes "sim"
 word_of (LoopOf cycles capture explained) = codes "loop"
 word_of (SegmentOf arguments capture explained) = codes "segment"
 word_of (MasterOf to descriptor patience capture explained strict) = codes "master"
-word_of (ScanOf to descriptor patience against) = codes "scan"
+word_of (ScanOf to descriptor patience against capture explained) = codes "scan"
 
 -- whether it is to explain a refusal
 abbrev pub is_explained : Command → Bool
@@ -83,7 +84,7 @@ is_explained (SimOf live capture explained strict) = explained
 is_explained (LoopOf cycles capture explained) = explained
 is_explained (SegmentOf arguments capture explained) = explained
 is_explained (MasterOf to descriptor patience capture explained strict) = explained
-is_explained (ScanOf to descriptor patience against) = false
+is_explained (ScanOf to descriptor patience against capture explained) = explained
 
 -- ---- what `clap` finds for its arguments
 
@@ -153,11 +154,13 @@ pub record FindsMaster (rows : List Row) (to : Text) (descriptor : Option ℕ) (
   pub for_explain : FindsFlag rows (codes "explain") explained
   pub for_strict : FindsFlag rows (codes "strict") strict
 
-pub record FindsScan (rows : List Row) (to : Text) (descriptor : Option ℕ) (patience : ℕ) (against : Option Text) : Type 0 where
+pub record FindsScan (rows : List Row) (to : Text) (descriptor : Option ℕ) (patience : ℕ) (against capture : Option Text) (explained : Bool) : Type 0 where
   pub for_to : FindsText rows (codes "to") (Some to)
   pub for_descriptor : FindsAny rows (codes "descriptor") descriptor (2 ^ 16)
   pub for_patience : FindsNumber rows (codes "patience") patience (2 ^ 16)
   pub for_against : FindsText rows (codes "against") against
+  pub for_capture : FindsText rows (codes "capture") capture
+  pub for_explain : FindsFlag rows (codes "explain") explained
 
 -- for the arguments of a command
 abbrev pub Finds : List Row → Command → Type 0
@@ -169,7 +172,7 @@ Finds rows (SimOf live capture explained strict) = FindsSim rows live capture ex
 Finds rows (LoopOf cycles capture explained) = FindsLoop rows cycles capture explained
 Finds rows (SegmentOf arguments capture explained) = FindsSegment rows arguments capture explained
 Finds rows (MasterOf to descriptor patience capture explained strict) = FindsMaster rows to descriptor patience capture explained strict
-Finds rows (ScanOf to descriptor patience against) = FindsScan rows to descriptor patience against
+Finds rows (ScanOf to descriptor patience against capture explained) = FindsScan rows to descriptor patience against capture explained
 
 -- `clap` met this command, and found its arguments
 pub record MeetsAs (met : Option (Text × List Row)) (command : Command) : Type 0 where
@@ -205,7 +208,8 @@ command_of (Loop cycles capture explained) = LoopOf cycles (option_map (λ file.
 command_of (Segment options capture explained) = SegmentOf (arguments_of options) (option_map (λ file. file.now) capture) explained
 command_of (Master to descriptor patience capture explained strict) =
     MasterOf to.now descriptor patience (option_map (λ file. file.now) capture) explained strict
-command_of (Scan to descriptor patience against) = ScanOf to.now descriptor patience (option_map (λ file. file.now) against)
+command_of (Scan to descriptor patience against capture explained) =
+    ScanOf to.now descriptor patience (option_map (λ file. file.now) against) (option_map (λ file. file.now) capture) explained
 
 abbrev pub Asks : Option (Text × List Row) → Request → Type 0
 Asks met request = MeetsAs met (command_of request)

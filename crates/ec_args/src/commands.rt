@@ -6,7 +6,7 @@ ghost use Rattle.clap.specs.Simple.{App, app_of, new_app, new_rule, on_top, with
 ghost use Rattle.clap.specs.Walk.{Rule};
 ghost use Rattle.clap.specs.declared.builder.action.ArgAction.TheVariants.{Set};
 ghost use Rattle.ec_args.specs.CommandLine.{decode_shape, ecat, encode_shape, loop_shape, master_shape, pass_shape, plan_shape, scan_shape, segment_shape, sim_shape};
-ghost use Rattle.ec_args.specs.CommandLine.{capture_rule, descriptor_rule, explain_rule, flag_rule, lines_rule, needed, number_rule, or_else, strict_rule, text_rule, with_input};
+ghost use Rattle.ec_args.specs.CommandLine.{capture_rule, descriptor_rule, explain_rule, flag_rule, lines_rule, needed, number_rule, or_else, strict_rule, terse_rule, text_rule, with_input};
 ghost use Rattle.ec_args.specs.Stages.{IsArgument, IsMadeAs, alone};
 
 use crate::helps::{
@@ -193,12 +193,12 @@ fn master_command<'a>(alloc: Global) -> Made<'a>
     with_argument(command, lines_argument(alloc, "LINES"))
 }
 
-/// `ecat scan [--to ADDRESS:PORT | --descriptor N] [--patience MS] [--against TABLE]`.
+/// `ecat scan [--to ADDRESS:PORT | --descriptor N] [--patience MS] [--against TABLE] [--capture FILE] [--explain] [--terse]`.
 fn scan_command<'a>(alloc: Global) -> Made<'a>
     ensures { IsMadeAs result (alone scan_shape) }
 {
     let usage =
-        "ecat scan [--to <ADDRESS:PORT> | --descriptor <N>] [--patience <MS>] [--against <TABLE>]";
+        "ecat scan [--to <ADDRESS:PORT> | --descriptor <N>] [--patience <MS>] [--against <TABLE>] [--capture <FILE>] [--explain] [--terse]";
     let about = "Finds the slaves of a segment and prints a link table of them";
     let command = used_as(alloc, "scan", usage, about, SCAN_EXAMPLE, SCAN_LINES);
     let help = "The IPv4 address and the UDP port of the segment";
@@ -209,7 +209,11 @@ fn scan_command<'a>(alloc: Global) -> Made<'a>
     let patience = by_default(number(alloc, "patience", "MS", 1, 60000, help), "500");
     let command = with_argument(command, patience);
     let help = "Print what differs from this link table instead: status 5 if anything does";
-    with_argument(command, option(alloc, "against", "TABLE", help))
+    let command = with_argument(command, option(alloc, "against", "TABLE", help));
+    let command = with_argument(command, capture_argument(alloc));
+    let help = "Explain a refusal: which slave, what it said, what to do";
+    let command = with_argument(command, flag(alloc, "explain", help));
+    with_argument(command, terse_argument(alloc))
 }
 
 /// A command without arguments: its name, its usage, what it does, and the texts below its short and its long help.
@@ -260,8 +264,15 @@ fn with_input<'a>(alloc: Global, command: Made<'a>, value: &'a str) -> Made<'a>
 {
     let help = "The file that is read; without it, or with `-`, standard input";
     let command = with_argument(command, text(alloc, "input", value, help));
+    with_argument(command, terse_argument(alloc))
+}
+
+/// `--terse`, which explains no refusal.
+fn terse_argument<'a>(alloc: Global) -> Arg<'a>
+    ensures { IsArgument result terse_rule }
+{
     let help = "Explain no refusal; else one is explained if standard error is a terminal";
-    with_argument(command, flag(alloc, "terse", help))
+    flag(alloc, "terse", help)
 }
 
 /// `SCRIPT` or `LINES`, the file of the lines behind a table.

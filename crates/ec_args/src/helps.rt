@@ -578,11 +578,12 @@ Exit status:
                         it aborted an upload with this code
      31 TooSlow FRAME   a wait wasn't over after 1000 polls, or a slave took too many frames
      32 Lost            a frame or its answer was lost: start the segment, and look at the wire
-     20 to 25           the slaves have no plan together, as `ecat plan --help` says
+     21 to 25           the slaves have no plan together, as `ecat plan --help` says
      11 to 25, 44       with `--against`: TABLE is refused, as there
       1 Memory          memory ran out: free some and try again
   4  input, output or a socket is at fault, in the same form:
-     41 Output          the table couldn't be written: see where standard output goes
+     41 Output          the table, or the capture, couldn't be written: see where standard output
+                        goes, and the file
      42 Input           TABLE couldn't be read: see whether the file is there
      43 Socket          there is no socket for ADDRESS:PORT: correct the address
   5  something differs from TABLE, and standard error says `ecat: NUMBER NAME VALUE`:

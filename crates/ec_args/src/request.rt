@@ -125,6 +125,10 @@ pub enum Request<'a> {
         patience: u16,
         /// The file of the table that the slaves are compared with.
         against: Option<&'a str>,
+        /// The file of the capture.
+        capture: Option<&'a str>,
+        /// Whether a refusal is explained, and why a scan failed.
+        explained: bool,
     },
 }
 
@@ -155,15 +159,13 @@ impl Request<'_> {
         ensures { result ≡ is_explained (command_of self.now) }
     {
         match *self {
-            Request::Pass { .. }
-            | Request::Decode { .. }
-            | Request::Encode
-            | Request::Scan { .. } => false,
+            Request::Pass { .. } | Request::Decode { .. } | Request::Encode => false,
             Request::Plan { explained, .. }
             | Request::Sim { explained, .. }
             | Request::Loop { explained, .. }
             | Request::Segment { explained, .. }
-            | Request::Master { explained, .. } => explained,
+            | Request::Master { explained, .. }
+            | Request::Scan { explained, .. } => explained,
         }
     }
 }
@@ -321,6 +323,8 @@ fn read_scan<'a>(given: &ArgMatches<'a>) -> Option<Request<'a>>
         descriptor: given.get_one::<u16>("descriptor"),
         patience: given.get_one::<u16>("patience")?,
         against: given.get_str("against"),
+        capture: given.get_str("capture"),
+        explained: given.get_flag("explain"),
     })
 }
 

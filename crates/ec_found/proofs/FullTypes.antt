@@ -1,5 +1,5 @@
 -- The full slaves of a table are found as its types.
-use Rattle.std.proofs.Common.{ℕ, ◌+◌, ◌≤◌, ◌≡◌, ◌==◌, ◌&&◌, ◌||◌, not, List, [], ◌∷◌, ◌++◌, length, map, filter, Bool, true, false, Option, None, Some, is_some, is_none, unwrap_or, nat_le, nat_lt, slice_index, if◌then◌else◌, refl, ap, ◌∙◌, arith}
+use Rattle.std.proofs.Common.{ℕ, ◌+◌, ◌≤◌, ◌≡◌, ◌==◌, ◌&&◌, ◌||◌, not, List, [], ◌∷◌, ◌++◌, length, map, filter, Bool, true, false, Option, None, Some, is_some, is_none, unwrap_or, nat_le, nat_lt, slice_index, if◌then◌else◌, refl, sym, ap, ◌∙◌, arith}
 use Rattle.std.specs.Int.{bit_at}
 use Rattle.std.specs.Option.{ForSome, option_map}
 use Rattle.std.proofs.lemmas.Bool.{and_right, eq-eqb, le-leb, le-ltb, ne_eqb}
@@ -9,7 +9,11 @@ use Rattle.ec_device.specs.declared.slave_type.Mailbox.{Mailbox}
 use Rattle.ec_device.specs.declared.slave_type.Pdo.{Pdo}
 use Rattle.ec_device.specs.declared.hardware.Hardware.{Hardware}
 use Rattle.ec_device.specs.Hardware.{are_pins, other_name, usual_inputs, usual_outputs}
+use Rattle.ec_device.specs.Objects.{assigned_entries}
 use Rattle.ec_device.specs.Types.{ArePdos, SlaveKind, device_of, first_input_index, first_output_index}
+use Rattle.ec_table.specs.declared.rows.SlaveRow.{SlaveRow}
+use Rattle.ec_table.specs.Contents.{Contents}
+use Rattle.ec_link.specs.Entries.{names_twice}
 use Rattle.ec_sii.specs.Categories.{coe_details, data_managers, general_flags, mailbox_managers, sii_managers}
 use Rattle.ec_sii.specs.Laws.{FitsKind, ReadsType, found_pdos, general_bytes}
 use Rattle.ec_sii.specs.Reading.{area_read, bytes_of, category_found, managers_read, pdos_read, ReadPdo}
@@ -21,14 +25,19 @@ use Rattle.ec_scan.specs.Showing.{IsUsable, usable}
 use Rattle.ec_found.specs.declared.areas.Areas.{Areas}
 use Rattle.ec_found.specs.declared.found.Unsaid.{Unsaid}
 use Rattle.ec_found.specs.declared.reading.UsedManager.{UsedManager}
-use Rattle.ec_found.specs.Founds.{all_inputs, all_outputs, areas_of, areas_shown, areas_with, byte_in, has_lrw, in_used, is_delivered, is_fixed, is_hardware, kept, kind_of, lacks, managers_in, merged, out_used, pdos_in, plain_pdo, unsaid_of, used_for, used_from, usual_areas, words_of}
-use Rattle.ec_found.specs.Laws.{FullTypesAreFound, ShowsType, as_hardware}
+use Rattle.ec_found.specs.Founds.{all_inputs, all_outputs, areas_of, areas_shown, areas_with, assigned_of, byte_in, exchanged_of, has_lrw, in_used, indices, is_assignable, is_delivered, is_fixed, is_hardware, kept, kind_of, lacks, left_out, listed, managers_in, merged, out_used, pdos_in, plain_pdo, repeated, unsaid_of, used_for, used_from, usual_areas, words_of}
+use Rattle.ec_found.specs.Laws.{ExchangesOnce, FoundAssignsOnce, FullTypesAreFound, IsSlaveOf, RowsExchangeOnce, ShowsType, as_hardware}
 use Rattle.ec_found.proofs.Ended.{category_alike}
 use Rattle.ec_found.proofs.EntryWords.{no_pdos}
 use Rattle.ec_found.proofs.KeptPdos.{kept_same, plain_pdos_same}
+use Rattle.ec_found.proofs.Planned.{all_inputs_once, all_outputs_once, inputs_once, outputs_once}
 use Rattle.ec_found.proofs.SamePdos.{merged_same}
+use Rattle.ec_found.proofs.Together.{listed_same, none_left_out, together_once}
 
 -- ---- what is read of the categories
+
+no_truth : {P : Type 0} → false ≡ true → P
+no_truth h = cc
 
 from_some : {A : Type 0} (a b : A) → Some a ≡ Some b → a ≡ b
 from_some a b h = cc
@@ -188,6 +197,7 @@ record IsRead (k : SlaveKind) (s : Shown) : Type 0 where
   pub outputs : all_outputs s ≡ k.outputs
   pub inputs : all_inputs s ≡ k.inputs
   pub general : bytes_of (words_of 30 s) ≡ general_bytes k
+  pub fixed : is_fixed s ≡ false
 
 read_all : (k : SlaveKind) (face : Face) (s : Shown) → FitsKind k → k.face ≡ Some face → ForSome k.mailbox IsUsable → are_pins k.out_start ≡ false → ShowsType k s → IsRead k s
 read_all k face s fits is_face used no_pins shows =
@@ -212,23 +222,42 @@ read_all k face s fits is_face used no_pins shows =
       outputs = ap (λ (b : Bool). merged b (pdos_in (is_some s.outputs) (words_of 51 s)) s.outputs) fixed ∙ ap (λ (ps : List Pdo). merged false ps s.outputs) outs ∙ merged_same k.outputs s.outputs fits.limits.outputs.apart fits.limits.outputs.few shows.outputs;
       inputs = ap (λ (b : Bool). merged b (pdos_in (is_some s.inputs) (words_of 50 s)) s.inputs) fixed ∙ ap (λ (ps : List Pdo). merged false ps s.inputs) ins ∙ merged_same k.inputs s.inputs fits.limits.inputs.apart fits.limits.inputs.few shows.inputs;
       general = general;
+      fixed = fixed;
     }
 
-same_kind : (k : SlaveKind) (s : Shown) → FitsKind k → device_of s.identity ≡ k.device → IsRead k s → kind_of s ≡ as_hardware k
-same_kind k s fits device r =
+assignable_if : (k : SlaveKind) (s : Shown) → IsRead k s → (is_assignable s ≡ false → k.mailbox ≡ None)
+assignable_if k s r h = by k.mailbox refl
+  where
+    by : (o : Option Mailbox) → k.mailbox ≡ o → k.mailbox ≡ None
+    by None e = e
+    by (Some m) e =
+        let t : is_assignable s ≡ true = ap (λ (o : Option Mailbox). is_some o && not (is_fixed s)) (r.mailbox ∙ e) ∙ ap not r.fixed in
+        no_truth (sym h ∙ t)
+
+same_pdos : (first : ℕ) (assignable : Bool) (all ps : List Pdo) → all ≡ ps → ArePdos first ps → (assignable ≡ false → names_twice (assigned_entries ps (indices ps)) ≡ false)
+    → listed assignable (kept first all) ≡ ps
+same_pdos first assignable all ps e limits once = ap (listed assignable) (ap (kept first) e ∙ kept_same first ps limits) ∙ listed_same assignable ps once
+
+same_kind : (c : Contents) (place : ℕ) (row : SlaveRow) (k : SlaveKind) (s : Shown) → IsSlaveOf c place row k → FitsKind k → device_of s.identity ≡ k.device → IsRead k s → kind_of s ≡ as_hardware k
+same_kind c place row k s own fits device r =
     alike made (device_of s.identity) k.device (usable s.mailbox) k.mailbox (areas_of s) (full_areas k false)
-    (kept first_output_index (all_outputs s)) k.outputs (kept first_input_index (all_inputs s)) k.inputs (has_lrw s) k.lrw
+    (listed (is_assignable s) (kept first_output_index (all_outputs s))) k.outputs (listed (is_assignable s) (kept first_input_index (all_inputs s))) k.inputs (has_lrw s) k.lrw
     device r.mailbox
     (ap (λ (b : Bool). if b then areas_shown s else usual_areas (areas_shown s)) r.said ∙ r.shown)
-    (ap (kept first_output_index) r.outputs ∙ kept_same first_output_index k.outputs fits.limits.outputs)
-    (ap (kept first_input_index) r.inputs ∙ kept_same first_input_index k.inputs fits.limits.inputs)
+    (same_pdos first_output_index (is_assignable s) (all_outputs s) k.outputs r.outputs fits.limits.outputs (λ h. all_outputs_once c place row k own (assignable_if k s r h)))
+    (same_pdos first_input_index (is_assignable s) (all_inputs s) k.inputs r.inputs fits.limits.inputs (λ h. all_inputs_once c place row k own (assignable_if k s r h)))
     (ap (λ (bs : List ℕ). not (bit_at (slice_index bs 11) 1 == 1)) r.general ∙ flag_back k.lrw)
 
 -- ---- nothing is left unsaid
 
-unsaid_none : (a b c d : Bool) (v w x y : Unsaid) → a ≡ false → b ≡ false → c ≡ false → d ≡ false
-    → (if a then Some v else (if b then Some w else (if c then Some x else (if d then Some y else None)))) ≡ None
-unsaid_none a b c d v w x y p q r s = rw (p, q, r, s) refl
+unsaid_none : (a b c d : Bool) (o i : Option ℕ) (v w x y : Unsaid) → a ≡ false → b ≡ false → c ≡ false → d ≡ false → o ≡ None → i ≡ None
+    → (if a then Some v else (if b then Some w else (if c then Some x else (if d then Some y else repeated o i)))) ≡ None
+unsaid_none a b c d o i v w x y p q r s t u = rw (p, q, r, s, t, u) refl
+
+left_out_none : (first : ℕ) (all ps : List Pdo) (exchanged : Option (List Pdo)) → all ≡ ps → ArePdos first ps → names_twice (assigned_entries ps (exchanged_of first ps exchanged)) ≡ false
+    → left_out first (kept first all) exchanged ≡ None
+left_out_none first all ps exchanged e limits once =
+    ap (λ (qs : List Pdo). left_out first qs exchanged) (ap (kept first) e ∙ kept_same first ps limits) ∙ none_left_out ps (exchanged_of first ps exchanged) once
 
 lacks_none : (first : ℕ) (ps qs : List Pdo) → ps ≡ qs → ArePdos first qs → lacks first ps ≡ false
 lacks_none first ps qs e limits =
@@ -236,13 +265,16 @@ lacks_none first ps qs e limits =
     ∙ ap (λ (xs : List Pdo). nat_lt (length xs) (length qs)) (kept_same first qs limits)
     ∙ le-ltb (length qs) (length qs) (omega arith)
 
-nothing_unsaid : (k : SlaveKind) (s : Shown) → FitsKind k → ShowsType k s → IsRead k s → unsaid_of s ≡ None
-nothing_unsaid k s fits shows r =
+nothing_unsaid : (k : SlaveKind) (s : Shown) → FitsKind k → ShowsType k s → IsRead k s → ExchangesOnce k s → unsaid_of s ≡ None
+nothing_unsaid k s fits shows r once =
     unsaid_none (not (s.mailbox.place.receive_size == 0) && is_none (usable s.mailbox)) (not (is_hardware (usable s.mailbox) (areas_shown s).hardware))
-    (lacks first_output_index (all_outputs s)) (lacks first_input_index (all_inputs s)) _ _ _ _
+    (lacks first_output_index (all_outputs s)) (lacks first_input_index (all_inputs s))
+    (left_out first_output_index (kept first_output_index (all_outputs s)) s.outputs) (left_out first_input_index (kept first_input_index (all_inputs s)) s.inputs) _ _ _ _
     (mailboxes k.mailbox refl) (ap not r.said)
     (lacks_none first_output_index (all_outputs s) k.outputs r.outputs fits.limits.outputs)
     (lacks_none first_input_index (all_inputs s) k.inputs r.inputs fits.limits.inputs)
+    (left_out_none first_output_index (all_outputs s) k.outputs s.outputs r.outputs fits.limits.outputs once.outputs)
+    (left_out_none first_input_index (all_inputs s) k.inputs s.inputs r.inputs fits.limits.inputs once.inputs)
   where
     mailboxes : (o : Option Mailbox) → k.mailbox ≡ o → (not (s.mailbox.place.receive_size == 0) && is_none (usable s.mailbox)) ≡ false
     mailboxes None e =
@@ -251,6 +283,24 @@ nothing_unsaid k s fits shows r =
     mailboxes (Some m) e = and_right (not (s.mailbox.place.receive_size == 0)) (is_none (usable s.mailbox)) (ap (λ (o : Option Mailbox). is_none o) (r.mailbox ∙ e))
 
 pub full_types_are_found : FullTypesAreFound
-full_types_are_found k face s fits is_face plain usable no_pins shows =
+full_types_are_found c place row k face s own fits is_face plain usable no_pins shows =
     let r : IsRead k s = read_all k face s fits is_face usable no_pins shows in
-    (same_kind k s fits shows.identity r, nothing_unsaid k s fits shows r)
+    (same_kind c place row k s own fits shows.identity r, nothing_unsaid k s fits shows r)
+
+pub rows_exchange_once : RowsExchangeOnce
+rows_exchange_once c place row k s own outs ins = record {
+  outputs = ap (λ (is : List ℕ). names_twice (assigned_entries k.outputs is)) outs ∙ outputs_once c place row k own;
+  inputs = ap (λ (is : List ℕ). names_twice (assigned_entries k.inputs is)) ins ∙ inputs_once c place row k own;
+}
+
+-- ---- what is found
+
+assigned_once : (first : ℕ) (ps qs : List Pdo) (is : List ℕ) (exchanged : Option (List Pdo)) → ps ≡ qs → is ≡ assigned_of first qs exchanged → names_twice (assigned_entries ps is) ≡ false
+assigned_once first ps qs is exchanged e f =
+    ap (λ (xs : List Pdo). names_twice (assigned_entries xs is)) e ∙ ap (λ (js : List ℕ). names_twice (assigned_entries qs js)) f ∙ together_once qs (exchanged_of first qs exchanged)
+
+pub found_assigns_once : FoundAssignsOnce
+found_assigns_once s f h = (
+  assigned_once first_output_index f.kind.outputs (kind_of s).outputs f.outputs s.outputs (ap (λ (k : SlaveKind). k.outputs) h.kind) h.outputs,
+  assigned_once first_input_index f.kind.inputs (kind_of s).inputs f.inputs s.inputs (ap (λ (k : SlaveKind). k.inputs) h.kind) h.inputs,
+)

@@ -1,10 +1,10 @@
 -- Of a type within its limits, a table takes all PDOs, and no entry is changed.
-use Rattle.std.proofs.Common.{ℕ, suc, ◌+◌, ◌<◌, ◌≤◌, ◌≡◌, ◌≢◌, ◌==◌, ◌&&◌, ◌||◌, not, nat_le, nat_lt, if◌then◌else◌, List, [], ◌∷◌, ◌++◌, length, map, take, get_or, Bool, true, false, All, AllPairs, refl, sym, ap, ◌∙◌, arith, inl, inr, append_assoc, append-nil}
+use Rattle.std.proofs.Common.{ℕ, suc, ◌+◌, ◌<◌, ◌≤◌, ◌≡◌, ◌≢◌, ◌==◌, ◌&&◌, ◌||◌, not, nat_le, nat_lt, if◌then◌else◌, List, [], ◌∷◌, ◌++◌, length, map, filter, take, get_or, Bool, true, false, All, AllPairs, refl, sym, ap, subst, ◌∙◌, arith, inl, inr, append_assoc, append-nil}
 use Rattle.std.specs.List.{list_all}
 use Rattle.std.proofs.lemmas.Bool.{and_from, and_parts, cases_Bool, eqb-true, eq-eqb, false_from_ne_true, le-leb, leb-true, lt-ltb, ltb-true, not-true, not_from_false, not_from_true, or_left, or_right}
 use Rattle.std.proofs.lemmas.List.{take_more}
-use Rattle.std.proofs.lemmas.List.Elements.{All-cons, All-push}
-use Rattle.std.proofs.lemmas.List.Kept.{AllPairs-cons}
+use Rattle.std.proofs.lemmas.List.Elements.{All-cons, All-filter, All-push}
+use Rattle.std.proofs.lemmas.List.Kept.{AllPairs-cons, AllPairs-filter}
 use Rattle.ec_device.specs.declared.slave_type.Entry.{Entry}
 use Rattle.ec_device.specs.declared.slave_type.Pdo.{Pdo}
 use Rattle.ec_device.specs.Types.{ArePdos, IsEntry, IsPdo}
@@ -182,3 +182,20 @@ kept_taken first ps i d l t = ap (kept first) (take_more ps i d l) ∙ kept_push
 pub kept_left : (first : ℕ) (ps : List Pdo) (i : ℕ) (d : Pdo) → i < length ps → takes first (kept first (take i ps)) (get_or ps i d) ≡ false
     → kept first (take (i + 1) ps) ≡ kept first (take i ps)
 kept_left first ps i d l t = ap (kept first) (take_more ps i d l) ∙ kept_push first [] (take i ps) (get_or ps i d) ∙ rw t refl
+
+limits_filter : (first : ℕ) (test : Pdo → Bool) (ps : List Pdo) → ArePdos first ps → ArePdos first (filter test ps)
+limits_filter first test ps h =
+    let many = fewer_pass test ps in
+    let few = h.few in
+    record {
+      few = omega (arith, many, few);
+      each = All-filter test (IsPdo first) ps h.each;
+      apart = AllPairs-filter (λ (p q : Pdo). p.index ≢ q.index) test ps h.apart;
+    }
+  where
+    fewer_pass : (test : Pdo → Bool) (ps : List Pdo) → length (filter test ps) ≤ length ps
+    fewer_pass test [] = omega arith
+    fewer_pass test (p ∷ ps) = let more = fewer_pass test ps in elim (cases_Bool (test p)) [ inl t ↦ rw t (omega (arith, more)) | inr f ↦ rw f (omega (arith, more)) ]
+
+pub limits_left : (first : ℕ) (test : Pdo → Bool) (all ps qs : List Pdo) → ArePdos first ps → qs ≡ filter test all → all ≡ ps → ArePdos first qs
+limits_left first test all ps qs h e f = subst (ArePdos first) (sym (e ∙ ap (filter test) f)) (limits_filter first test ps h)

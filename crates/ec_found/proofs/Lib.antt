@@ -7,6 +7,8 @@ mod HardwareLimits
 mod KeptPdos
 mod SamePdos
 mod SameTypes
+mod Together
+mod Planned
 mod Stated
 mod WordBytes
 mod FullTypes

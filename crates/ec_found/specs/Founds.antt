@@ -1,16 +1,17 @@
 -- Which type a slave is, by what it shows, and what a table can't say of it (ETG.1000.6, "Slave information interface area", "Sync manager
 -- PDO assignment"). Where the SII and CoE differ, CoE decides.
-use Rattle.std.specs.Prelude.{◌≡◌, ℕ, ◌+◌, ◌/◌, ◌%◌, ◌==◌, ◌&&◌, ◌||◌, not, List, [], ◌∷◌, ◌++◌, length, map, filter, Bool, true, false, nat_le, nat_lt, if◌then◌else◌, slice_index, Option, Some, None, is_some, is_none, unwrap_or}
+use Rattle.std.specs.Prelude.{◌≡◌, ℕ, ◌+◌, ◌/◌, ◌%◌, ◌==◌, ◌&&◌, ◌||◌, not, List, [], ◌∷◌, ◌++◌, length, map, filter, find, Bool, true, false, nat_le, nat_lt, if◌then◌else◌, slice_index, Option, Some, None, is_some, is_none, unwrap_or}
 use Rattle.std.specs.Int.{bit_at}
-use Rattle.std.specs.List.{list_all}
+use Rattle.std.specs.List.{list_all, list_any}
 use Rattle.ec_device.specs.declared.slave_type.Entry.{Entry}
 use Rattle.ec_device.specs.declared.slave_type.Pdo.{Pdo}
 use Rattle.ec_device.specs.declared.slave_type.Mailbox.{Mailbox}
 use Rattle.ec_device.specs.declared.hardware.Hardware.{Hardware}
 use Rattle.ec_device.specs.declared.hardware.ProcessManager.{ProcessManager}
 use Rattle.ec_device.specs.Hardware.{are_pins, other_name}
-use Rattle.ec_device.specs.Objects.{pdo_at}
+use Rattle.ec_device.specs.Objects.{assigned_entries, pdo_at}
 use Rattle.ec_device.specs.Types.{SlaveKind, device_of, first_input_index, first_output_index}
+use Rattle.ec_link.specs.Entries.{names_twice}
 use Rattle.ec_sii.specs.Reading.{bytes_of, category_found, managers_read, pdos_read, ReadPdo}
 use Rattle.ec_scan.specs.declared.shown.Shown.{Shown}
 use Rattle.ec_scan.specs.Showing.{usable}
@@ -180,16 +181,49 @@ abbrev pub indices : List Pdo → List ℕ
 indices ps = map (λ (p : Pdo). p.index) ps
 
 -- which of its type's PDOs a slave exchanges: all, unless CoE says which
+abbrev pub exchanged_of : ℕ → List Pdo → Option (List Pdo) → List ℕ
+exchanged_of first ps None = indices ps
+exchanged_of first ps (Some qs) = filter (has_index ps) (indices (kept first qs))
+
+-- Those of PDOs, by their indices, that a table can assign together, in order: a PDO is left out if it has an entry, no gap, that one before
+-- it has, or one twice. (A table that assigns an entry twice has no plan.)
+abbrev pub together_behind : List Pdo → (found rest : List ℕ) → List ℕ
+together_behind ps found [] = found
+together_behind ps found (i ∷ is) =
+    if names_twice (assigned_entries ps (found ++ i ∷ [])) then together_behind ps found is else together_behind ps (found ++ i ∷ []) is
+
+abbrev pub together : List Pdo → List ℕ → List ℕ
+together ps is = together_behind ps [] is
+
 abbrev pub assigned_of : ℕ → List Pdo → Option (List Pdo) → List ℕ
-assigned_of first ps None = indices ps
-assigned_of first ps (Some qs) = filter (has_index ps) (indices (kept first qs))
+assigned_of first ps exchanged = together ps (exchanged_of first ps exchanged)
+
+-- the first that is left out
+abbrev pub has : List ℕ → ℕ → Bool
+has is i = list_any (λ j. j == i) is
+
+abbrev pub left_out : ℕ → List Pdo → Option (List Pdo) → Option ℕ
+left_out first ps exchanged = find (λ i. not (has (assigned_of first ps exchanged) i)) (exchanged_of first ps exchanged)
+
+-- A type lists all of its PDOs if a table says which of them a slave exchanges. Else it lists what its slaves exchange: those that a table
+-- can assign together.
+abbrev pub listed : (assignable : Bool) → List Pdo → List Pdo
+listed true ps = ps
+listed false ps = filter (λ (p : Pdo). has (together ps (indices ps)) p.index) ps
 
 -- TxPDOs (category 50) are inputs, RxPDOs (51) outputs. If CoE doesn't say which are exchanged, they are those that are as delivered.
+abbrev pub all_pdos : ℕ → Shown → Option (List Pdo) → List Pdo
+all_pdos number s exchanged = merged (is_fixed s) (pdos_in (is_some exchanged) (words_of number s)) exchanged
+
 abbrev pub all_outputs : Shown → List Pdo
-all_outputs s = merged (is_fixed s) (pdos_in (is_some s.outputs) (words_of 51 s)) s.outputs
+all_outputs s = all_pdos 51 s s.outputs
 
 abbrev pub all_inputs : Shown → List Pdo
-all_inputs s = merged (is_fixed s) (pdos_in (is_some s.inputs) (words_of 50 s)) s.inputs
+all_inputs s = all_pdos 50 s s.inputs
+
+-- a table says which PDOs it exchanges: by CoE it takes them, and its assignment can be written
+abbrev pub is_assignable : Shown → Bool
+is_assignable s = is_some (usable s.mailbox) && not (is_fixed s)
 
 -- ---- the type
 
@@ -199,24 +233,33 @@ kind_of s = record {
   mailbox = usable s.mailbox;
   out_start = other_name (Some (areas_of s).hardware) (areas_of s).out_start;
   in_start = (areas_of s).in_start;
-  outputs = kept first_output_index (all_outputs s);
-  inputs = kept first_input_index (all_inputs s);
+  outputs = listed (is_assignable s) (kept first_output_index (all_outputs s));
+  inputs = listed (is_assignable s) (kept first_input_index (all_inputs s));
   lrw = has_lrw s;
   face = None;
   hardware = Some (areas_of s).hardware;
   init = [];
 }
 
--- the first thing that a table can't say of a slave: its mailbox, its sync managers, or PDOs that were left out
+-- The first thing that a table can't say of a slave: its mailbox, its sync managers, PDOs that it doesn't take, or a PDO that it can't assign
+-- beside others.
 abbrev pub lacks : ℕ → List Pdo → Bool
 lacks first ps = nat_lt (length (kept first ps)) (length ps)
+
+abbrev pub repeated : (output input : Option ℕ) → Option Unsaid
+repeated (Some i) input = Some (unsaid.Repeats i)
+repeated None (Some i) = Some (unsaid.Repeats i)
+repeated None None = None
 
 abbrev pub unsaid_of : Shown → Option Unsaid
 unsaid_of s =
     if not (s.mailbox.place.receive_size == 0) && is_none (usable s.mailbox) then Some unsaid.Mailbox
     else (if not (is_hardware (usable s.mailbox) (areas_shown s).hardware) then Some unsaid.Managers
     else (if lacks first_output_index (all_outputs s) then Some unsaid.Outputs
-    else (if lacks first_input_index (all_inputs s) then Some unsaid.Inputs else None)))
+    else (if lacks first_input_index (all_inputs s) then Some unsaid.Inputs
+    else repeated
+    (left_out first_output_index (kept first_output_index (all_outputs s)) s.outputs)
+    (left_out first_input_index (kept first_input_index (all_inputs s)) s.inputs))))
 
 -- what is found of a slave
 pub record IsFound (s : Shown) (f : Found) : Type 0 where

@@ -1,14 +1,13 @@
 //! What differs between the slaves that were found and those of a table.
-ghost use Rattle.std.specs.Prelude.{◌≡◌, ◌<◌, ◌++◌, length, IfOk, OnOk};
+ghost use Rattle.std.specs.Prelude.{◌≡◌, ◌<◌, length, IfOk};
 ghost use Rattle.ec_device.specs.Hardware.{takes_any_revision};
-ghost use Rattle.ec_device.specs.Objects.{assigned_entries};
 ghost use Rattle.ec_found.specs.Differing.{agrees, differ, differs, is_none, is_same, started};
 
+use crate::assigned::entries_of;
 use crate::found::Found;
 use crate::same::have_same_entries;
 use ec_coe::find_pdo;
-use ec_device::{Device, Entry, Pdo, SlaveType};
-use ec_listed::Listed;
+use ec_device::{Device, Pdo, SlaveType};
 use ec_table::{SlaveRow, Table};
 use std::alloc::{AllocError, Global};
 use std::fmt::Write as _;
@@ -96,32 +95,9 @@ fn differ(
 ) -> Result<bool, AllocError>
     ensures { IfOk result (λ d. d ≡ differ (pdos.entry.0.now, pdos.entry.1.now) (assigned.entry.0.now, assigned.entry.1.now)) }
 {
-    let one = exchanged(alloc, pdos.0, assigned.0)?;
-    let other = exchanged(alloc, pdos.1, assigned.1)?;
+    let one = entries_of(alloc, pdos.0, assigned.0)?;
+    let other = entries_of(alloc, pdos.1, assigned.1)?;
     Ok(assigned.0 != assigned.1 || !have_same_entries(one.as_slice(), other.as_slice()))
-}
-
-/// The entries of the PDOs with these indices, one after another.
-fn exchanged(alloc: Global, pdos: &[Pdo], indices: &[u16]) -> Result<Listed<Entry>, AllocError>
-    ensures { IfOk result (λ es. es ≡ assigned_entries pdos.now indices.now) }
-{
-    let mut found = Listed::new(alloc);
-    for index in indices {
-        if let Some(pdo) = find_pdo(pdos, *index) {
-            push_entries(&mut found, pdo.entries.as_slice())?;
-        }
-    }
-    Ok(found)
-}
-
-/// Puts entries behind others.
-fn push_entries(found: &mut Listed<Entry>, entries: &[Entry]) -> Result<(), AllocError>
-    ensures { OnOk result (found.new ≡ found.old ++ entries.now) }
-{
-    for entry in entries {
-        found.push(*entry)?;
-    }
-    Ok(())
 }
 
 /// Whether a table has the slaves that were found and no others: nothing differs.

@@ -1,11 +1,12 @@
 //! Which type a slave is, by what it shows.
-ghost use Rattle.std.specs.Prelude.{◌≡◌, is_some, IfOk};
+ghost use Rattle.std.specs.Prelude.{◌≡◌, ◌≤◌, IfOk};
 ghost use Rattle.std.specs.Option.{option_map};
 ghost use Rattle.ec_device.specs.Types.{ArePdos, first_input_index, first_output_index};
-ghost use Rattle.ec_found.specs.Founds.{IsFound, all_inputs, all_outputs, has_lrw, is_fixed, kept, kind_of, lacks, merged, pdos_in, unsaid_of, words_of};
+ghost use Rattle.ec_found.specs.Founds.{IsFound, all_inputs, all_outputs, all_pdos, assigned_of, has_lrw, is_assignable, kept, kind_of, lacks, left_out, listed, repeated, unsaid_of};
 
 use crate::areas::{Areas, is_fixed};
-use crate::mapped::{assigned_of, kept, merged};
+use crate::assigned::{assigned_of, left_out, listed};
+use crate::mapped::{kept, merged};
 use crate::reading::{GENERAL, INPUT_PDOS, OUTPUT_PDOS, byte_in, pdos_in, words_in};
 use ec_device::{FIRST_INPUT_INDEX, FIRST_OUTPUT_INDEX, Pdo, SlaveType};
 use ec_listed::Listed;
@@ -23,6 +24,8 @@ pub enum Unsaid {
     Outputs,
     /// An input PDO.
     Inputs,
+    /// The PDO with this index, which the slave exchanges: it has an entry that a PDO before it has, or one twice.
+    Repeats(u16),
 }
 
 /// A slave as it was found, in the words of a table.
@@ -32,60 +35,81 @@ pub struct Found {
     pub kind: SlaveType,
     /// Its serial number.
     pub serial: u32,
-    /// The indices of the output PDOs that it exchanges, in order.
+    /// The indices of the output PDOs that a table assigns to it, in order: those that it exchanges, without a PDO that repeats an entry.
     pub outputs: Listed<u16>,
-    /// The indices of the input PDOs that it exchanges.
+    /// The indices of the input PDOs.
     pub inputs: Listed<u16>,
-    /// The first thing that a table can't say of it; the type leaves that out.
+    /// The first thing that a table can't say of it, which is left out.
     pub unsaid: Option<Unsaid>,
 }
 
 /// The bit of the flags of a slave that takes no part in LRW: bit 1 of byte 11.
 const NO_LRW: u8 = 1 << 1;
 
+/// What a table says of the PDOs of a direction.
+#[derive(Drop)]
+struct Side {
+    /// Those that the type lists.
+    listed: Listed<Pdo>,
+    /// The indices of those that the slave assigns.
+    assigned: Listed<u16>,
+    /// Whether a table doesn't take some.
+    lacks: bool,
+    /// The index of the first that it can't assign beside others.
+    left_out: Option<u16>,
+}
+
 /// What a slave is, by what it shows. The error says that memory ran out.
 pub fn found_of(alloc: Global, shown: &Shown) -> Result<Found, AllocError>
     ensures { IfOk result (IsFound shown.now) }
 {
-    let outputs = all_pdos(alloc, shown, OUTPUT_PDOS, &shown.outputs)?;
-    let inputs = all_pdos(alloc, shown, INPUT_PDOS, &shown.inputs)?;
-    said_of(alloc, shown, outputs.as_slice(), inputs.as_slice())
+    let (outs, ins) = (FIRST_OUTPUT_INDEX, FIRST_INPUT_INDEX);
+    let outputs = side_of(alloc, shown, outs, OUTPUT_PDOS, &shown.outputs)?;
+    let inputs = side_of(alloc, shown, ins, INPUT_PDOS, &shown.inputs)?;
+    let unsaid = unsaid_of(shown, &outputs, &inputs);
+    Ok(Found {
+        kind: kind_of(alloc, shown, outputs.listed, inputs.listed),
+        serial: shown.identity.serial,
+        outputs: outputs.assigned,
+        inputs: inputs.assigned,
+        unsaid,
+    })
 }
 
-/// What a slave is, by what it shows and by all PDOs that it has.
-fn said_of(
+/// What a table says of the PDOs of the direction whose indices begin at `first`.
+fn side_of(
     alloc: Global,
     shown: &Shown,
-    outputs: &[Pdo],
-    inputs: &[Pdo],
-) -> Result<Found, AllocError>
-    requires outputs { outputs.now ≡ all_outputs shown.now }
-    requires inputs { inputs.now ≡ all_inputs shown.now }
-    ensures { IfOk result (IsFound shown.now) }
+    first: u16,
+    category: u16,
+    exchanged: &Option<Listed<Pdo>>,
+) -> Result<Side, AllocError>
+    requires { first ≤ first_input_index }
+    ensures listed { IfOk result (λ side. side.listed ≡ listed (is_assignable shown.now) (kept first (all_pdos category shown.now exchanged.now))) }
+    ensures limits { IfOk result (λ side. ArePdos first side.listed) }
+    ensures assigned { IfOk result (λ side. side.assigned ≡ assigned_of first side.listed exchanged.now) }
+    ensures lacks { IfOk result (λ side. side.lacks ≡ lacks first (all_pdos category shown.now exchanged.now)) }
+    ensures left_out { IfOk result (λ side. side.left_out ≡ left_out first (kept first (all_pdos category shown.now exchanged.now)) exchanged.now) }
 {
-    let kept_outputs = kept(alloc, FIRST_OUTPUT_INDEX, outputs)?;
-    let kept_inputs = kept(alloc, FIRST_INPUT_INDEX, inputs)?;
-    let lacks_outputs = kept_outputs.len() < outputs.len();
-    let lacks_inputs = kept_inputs.len() < inputs.len();
-    let assigned_outputs = assigned_of(
-        alloc,
-        FIRST_OUTPUT_INDEX,
-        kept_outputs.as_slice(),
-        lent(&shown.outputs),
-    )?;
-    let assigned_inputs = assigned_of(
-        alloc,
-        FIRST_INPUT_INDEX,
-        kept_inputs.as_slice(),
-        lent(&shown.inputs),
-    )?;
-    Ok(Found {
-        kind: kind_of(alloc, shown, kept_outputs, kept_inputs),
-        serial: shown.identity.serial,
-        outputs: assigned_outputs,
-        inputs: assigned_inputs,
-        unsaid: unsaid_of(shown, lacks_outputs, lacks_inputs),
+    let all = all_pdos(alloc, shown, category, exchanged)?;
+    let pdos = kept(alloc, first, all.as_slice())?;
+    let lacks = pdos.len() < all.len();
+    let left_out = left_out(alloc, first, pdos.as_slice(), lent(exchanged))?;
+    let listed = listed(alloc, first, is_assignable(shown), pdos)?;
+    let assigned = assigned_of(alloc, first, listed.as_slice(), lent(exchanged))?;
+    Ok(Side {
+        listed,
+        assigned,
+        lacks,
+        left_out,
     })
+}
+
+/// Whether a table says which PDOs a slave exchanges.
+fn is_assignable(shown: &Shown) -> bool
+    ensures { result ≡ is_assignable shown.now }
+{
+    shown.mailbox.usable().is_some() && !is_fixed(shown)
 }
 
 /// All PDOs of a direction: those of a category, and those that are exchanged by CoE.
@@ -95,7 +119,7 @@ fn all_pdos(
     category: u16,
     exchanged: &Option<Listed<Pdo>>,
 ) -> Result<Listed<Pdo>, AllocError>
-    ensures { IfOk result (λ ps. ps ≡ merged (is_fixed shown.now) (pdos_in (is_some exchanged.now) (words_of category shown.now)) exchanged.now) }
+    ensures { IfOk result (λ ps. ps ≡ all_pdos category shown.now exchanged.now) }
 {
     let words = words_in(shown.categories.as_slice(), category);
     let read = pdos_in(alloc, exchanged.is_some(), words)?;
@@ -114,8 +138,8 @@ fn lent(exchanged: &Option<Listed<Pdo>>) -> Option<&[Pdo]>
 
 /// The type of a slave with these PDOs.
 fn kind_of(alloc: Global, shown: &Shown, outputs: Listed<Pdo>, inputs: Listed<Pdo>) -> SlaveType
-    requires outputs { outputs ≡ kept first_output_index (all_outputs shown.now) }
-    requires inputs { inputs ≡ kept first_input_index (all_inputs shown.now) }
+    requires outputs { outputs ≡ listed (is_assignable shown.now) (kept first_output_index (all_outputs shown.now)) }
+    requires inputs { inputs ≡ listed (is_assignable shown.now) (kept first_input_index (all_inputs shown.now)) }
     requires few_outputs { ArePdos first_output_index outputs }
     requires few_inputs { ArePdos first_input_index inputs }
     ensures { result ≡ kind_of shown.now }
@@ -135,22 +159,34 @@ fn kind_of(alloc: Global, shown: &Shown, outputs: Listed<Pdo>, inputs: Listed<Pd
     kind
 }
 
-/// The first thing that a table can't say of a slave, some of whose PDOs may have been left out.
-fn unsaid_of(shown: &Shown, lacks_outputs: bool, lacks_inputs: bool) -> Option<Unsaid>
-    requires outputs { lacks_outputs ≡ lacks first_output_index (all_outputs shown.now) }
-    requires inputs { lacks_inputs ≡ lacks first_input_index (all_inputs shown.now) }
+/// The first thing that a table can't say of a slave with these PDOs.
+fn unsaid_of(shown: &Shown, outputs: &Side, inputs: &Side) -> Option<Unsaid>
+    requires outputs { outputs.now.lacks ≡ lacks first_output_index (all_outputs shown.now) }
+    requires inputs { inputs.now.lacks ≡ lacks first_input_index (all_inputs shown.now) }
+    requires output { outputs.now.left_out ≡ left_out first_output_index (kept first_output_index (all_outputs shown.now)) shown.now.outputs }
+    requires input { inputs.now.left_out ≡ left_out first_input_index (kept first_input_index (all_inputs shown.now)) shown.now.inputs }
     ensures { result ≡ unsaid_of shown.now }
 {
     if shown.mailbox.place.receive_size > 0 && shown.mailbox.usable().is_none() {
         Some(Unsaid::Mailbox)
     } else if !Areas::are_said(shown) {
         Some(Unsaid::Managers)
-    } else if lacks_outputs {
+    } else if outputs.lacks {
         Some(Unsaid::Outputs)
-    } else if lacks_inputs {
+    } else if inputs.lacks {
         Some(Unsaid::Inputs)
     } else {
-        None
+        repeated(outputs.left_out, inputs.left_out)
+    }
+}
+
+/// That a PDO is left out which has an entry that is exchanged already, if one is.
+fn repeated(output: Option<u16>, input: Option<u16>) -> Option<Unsaid>
+    ensures { result ≡ repeated output input }
+{
+    match (output, input) {
+        (Some(index), _) | (None, Some(index)) => Some(Unsaid::Repeats(index)),
+        (None, None) => None,
     }
 }
 

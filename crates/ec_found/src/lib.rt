@@ -4,6 +4,7 @@
 
 mod against;
 mod areas;
+mod assigned;
 mod error;
 mod found;
 pub mod laws;
@@ -19,4 +20,4 @@ pub use crate::error::FoundError;
 pub use crate::found::{Found, Unsaid, found_of};
 pub use crate::names::Word;
 pub use crate::read_back::{as_found, printed};
-pub use crate::text::unsaid_text;
+pub use crate::text::{table_text, unsaid_text};

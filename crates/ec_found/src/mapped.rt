@@ -2,7 +2,7 @@
 ghost use Rattle.std.specs.Prelude.{◌≡◌, ◌≤◌, ◌++◌, ◌∷◌, [], filter, not, IfOk, OnOk};
 ghost use Rattle.std.specs.Option.{option_map};
 ghost use Rattle.ec_device.specs.Types.{ArePdos, first_input_index};
-ghost use Rattle.ec_found.specs.Founds.{assigned_of, exchanged_first, has_index, indices, is_pdo, joined, kept, merged, takes};
+ghost use Rattle.ec_found.specs.Founds.{exchanged_first, has_index, is_pdo, joined, kept, merged, takes};
 
 use ec_coe::find_pdo;
 use ec_device::{MAX_PDOS, Pdo, copied_pdos};
@@ -88,46 +88,6 @@ pub(crate) fn kept(alloc: Global, first: u16, pdos: &[Pdo]) -> Result<Listed<Pdo
     Ok(found)
 }
 
-/// The indices of the PDOs that a slave exchanges, of those that its type has: all, unless CoE says which.
-pub(crate) fn assigned_of(
-    alloc: Global,
-    first: u16,
-    pdos: &[Pdo],
-    exchanged: Option<&[Pdo]>,
-) -> Result<Listed<u16>, AllocError>
-    requires { first ≤ first_input_index }
-    ensures { IfOk result (λ is. is ≡ assigned_of first pdos.now (option_map (λ qs. qs.now) exchanged.entry)) }
-{
-    match exchanged {
-        None => all_indices(alloc, pdos),
-        Some(said) => known_indices(alloc, pdos, kept(alloc, first, said)?.as_slice()),
-    }
-}
-
-/// The indices of PDOs.
-fn all_indices(alloc: Global, pdos: &[Pdo]) -> Result<Listed<u16>, AllocError>
-    ensures { IfOk result (λ is. is ≡ indices pdos.now) }
-{
-    let mut found = Listed::new(alloc);
-    for pdo in pdos {
-        found.push(pdo.index)?;
-    }
-    Ok(found)
-}
-
-/// The indices of PDOs, as far as `known` has them.
-fn known_indices(alloc: Global, known: &[Pdo], pdos: &[Pdo]) -> Result<Listed<u16>, AllocError>
-    ensures { IfOk result (λ is. is ≡ filter (has_index known.now) (indices pdos.now)) }
-{
-    let mut found = Listed::new(alloc);
-    for pdo in pdos {
-        if has_index(known, pdo.index) {
-            found.push(pdo.index)?;
-        }
-    }
-    Ok(found)
-}
-
 /// Whether a table takes a PDO behind those found.
 fn takes(first: u16, found: &[Pdo], pdo: &Pdo) -> bool
     requires { first ≤ first_input_index }
@@ -145,14 +105,14 @@ fn is_pdo(first: u16, pdo: &Pdo) -> bool
 }
 
 /// Whether a PDO has an index.
-fn has_index(pdos: &[Pdo], index: u16) -> bool
+pub(crate) fn has_index(pdos: &[Pdo], index: u16) -> bool
     ensures { result ≡ has_index pdos.now index }
 {
     find_pdo(pdos, index).is_some()
 }
 
 /// Puts a copy of a PDO behind others.
-fn push_copy(alloc: Global, found: &mut Listed<Pdo>, pdo: &Pdo) -> Result<(), AllocError>
+pub(crate) fn push_copy(alloc: Global, found: &mut Listed<Pdo>, pdo: &Pdo) -> Result<(), AllocError>
     ensures { OnOk result (found.new ≡ found.old ++ pdo.now ∷ []) }
 {
     let entries = Listed::copied(alloc, pdo.entries.as_slice())?;

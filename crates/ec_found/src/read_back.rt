@@ -30,18 +30,23 @@ pub fn printed(alloc: Global, shown: &[Shown], found: &[Found]) -> Result<String
     }
 }
 
-/// The place of the first slave that a table has otherwise than it was found; none if it has them all.
+/// The place of the first slave that a table has otherwise than it was found, or that it or the scan doesn't have; none if it has them all and
+/// no others. It is 0 if the table isn't for hardware.
 #[tactic(auto, using(crate::proofs::Stated::no_rows, crate::proofs::Stated::rows_more, crate::proofs::Stated::all_rows))]
 fn first_other(alloc: Global, table: &Table, found: &[Found]) -> Result<Option<usize>, AllocError>
     ensures { IfOk result (λ other. IfNone other (HasFound found.now table.now)) }
 {
-    if !table.is_hardware() || table.slaves().len() != found.len() {
+    if !table.is_hardware() {
         return Ok(Some(0));
     }
+    let count = table.slaves().len();
     for (place, one) in found.iter().enumerate() {
-        if !as_found(alloc, table, place, one)? {
+        if place >= count || !as_found(alloc, table, place, one)? {
             return Ok(Some(place));
         }
+    }
+    if count > found.len() {
+        return Ok(Some(found.len()));
     }
     Ok(None)
 }

@@ -95,14 +95,14 @@ fn is_same_pdo(one: &Pdo, other: &Pdo) -> bool
     one.index == other.index && are_same_entries(one.entries.as_slice(), other.entries.as_slice())
 }
 
-/// Whether two lists have the same entries in the same order.
+/// Whether two lists of entries are equal.
 fn are_same_entries(one: &[Entry], other: &[Entry]) -> bool
     ensures { IsTrue result ↔ (one.now ≡ other.now) }
 {
     have_same_entries(one, other)
 }
 
-/// The same, as a table's slave and the one that was found are compared.
+/// Whether two lists have the same entries in the same order. The PDOs of a table's slave and of the one that was found are compared by it.
 pub(crate) fn have_same_entries(one: &[Entry], other: &[Entry]) -> bool
     ensures { result ≡ same_entries one.now other.now }
 {

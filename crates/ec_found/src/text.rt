@@ -9,6 +9,7 @@ use ec_coe::find_pdo;
 use ec_device::{Entry, Pdo, ProcessManager, SlaveType};
 use ec_scan::Shown;
 use std::alloc::{AllocError, Global};
+use std::fmt;
 use std::fmt::Write as _;
 
 /// The most letters of a type's name, and of a word in a variable's.
@@ -114,12 +115,9 @@ impl Row<'_> {
     }
 }
 
-/// The text of a table with these slaves; `shown` is what each of them shows.
-pub(crate) fn table_text(
-    alloc: Global,
-    shown: &[Shown],
-    found: &[Found],
-) -> Result<String, AllocError> {
+/// The text of a table with these slaves; `shown` is what each of them shows. It may have no plan: [`crate::printed`] tests that. The error
+/// says that memory ran out.
+pub fn table_text(alloc: Global, shown: &[Shown], found: &[Found]) -> Result<String, AllocError> {
     let rows = names_of(alloc, shown, found)?;
     let mut text = String::new(alloc);
     text.push_str("version = 2\nhardware = true\n")?;
@@ -152,8 +150,8 @@ pub fn unsaid_text(alloc: Global, shown: &[Shown], found: &[Found]) -> Result<St
     let mut text = String::new(alloc);
     for (place, (one, row)) in found.iter().zip(rows.as_slice()).enumerate() {
         if let Some(unsaid) = one.unsaid {
-            let (name, what) = (row.name.as_str(), comment_on(unsaid));
-            writeln!(text, "slave {place} `{name}`: {what}")?;
+            let name = row.name.as_str();
+            writeln!(text, "slave {place} `{name}`: {unsaid}")?;
         }
     }
     if !text.is_empty() {
@@ -328,7 +326,7 @@ fn write_pdo(text: &mut String, row: &Row<'_>, way: Way, pdo: &Pdo) -> Result<()
 fn write_slave(text: &mut String, row: &Row<'_>) -> Result<(), AllocError> {
     text.push_str("\n")?;
     if let Some(unsaid) = row.found.unsaid {
-        writeln!(text, "# {}", comment_on(unsaid))?;
+        writeln!(text, "# {unsaid}")?;
     }
     writeln!(text, "[[slave]]\nname = \"{}\"", row.names.name.as_str())?;
     writeln!(text, "type = \"{}\"", row.names.type_name.as_str())?;
@@ -415,16 +413,26 @@ fn write_variable(
     )
 }
 
-/// What a table can't say, in words.
-fn comment_on(unsaid: Unsaid) -> &'static str {
-    match unsaid {
-        Unsaid::Mailbox =>
-            "its mailboxes are left out: `mailbox` takes CoE, 16 to 1024 bytes, at 0x1000 or above",
-        Unsaid::Managers =>
-            "its sync managers are left out: `out_manager` and `in_manager` are two of 0 to 3 in the usual modes; beside a mailbox 2 and 3",
-        Unsaid::Outputs =>
-            "outputs of it are left out: `rxpdo` takes up to 16 PDOs, 0x1600 to 0x17FF once each, with up to 64 entries of up to 64 bits",
-        Unsaid::Inputs =>
-            "inputs of it are left out: `txpdo` takes up to 16 PDOs, 0x1A00 to 0x1BFF once each, with up to 64 entries of up to 64 bits",
+/// In words.
+impl fmt::Display for Unsaid {
+    fn fmt<W: fmt::Write>(&self, f: &mut fmt::Formatter<W>) -> fmt::Result {
+        match *self {
+            Unsaid::Mailbox => f.write_str(
+                "its mailboxes are left out: `mailbox` takes CoE, 16 to 1024 bytes, at 0x1000 or above",
+            ),
+            Unsaid::Managers => f.write_str(
+                "its sync managers are left out: `out_manager` and `in_manager` are two of 0 to 3 in the usual modes; beside a mailbox 2 and 3",
+            ),
+            Unsaid::Outputs => f.write_str(
+                "outputs of it are left out: `rxpdo` takes up to 16 PDOs, 0x1600 to 0x17FF once each, with up to 64 entries of up to 64 bits",
+            ),
+            Unsaid::Inputs => f.write_str(
+                "inputs of it are left out: `txpdo` takes up to 16 PDOs, 0x1A00 to 0x1BFF once each, with up to 64 entries of up to 64 bits",
+            ),
+            Unsaid::Repeats(index) => write!(
+                f,
+                "its PDO 0x{index:04X} is left out: an entry of it is exchanged already, and a table has each entry once in a direction"
+            ),
+        }
     }
 }

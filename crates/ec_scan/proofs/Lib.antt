@@ -1,4 +1,5 @@
 mod Harmless
 mod LineLemmas
+mod KeptLemmas
 mod FoundWords
 mod Flags

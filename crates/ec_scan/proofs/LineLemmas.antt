@@ -1,5 +1,5 @@
 -- What a line has sent, with one frame more or with none.
-use Rattle.std.proofs.Common.{ℕ, ◌+◌, ◌-◌, ◌≤◌, ◌≡◌, ◌≢◌, List, [], ◌∷◌, length, map, min, take, All, Bool, false, Result, Ok, Err, IfOk, refl, sym, ap, subst, ◌∙◌, arith}
+use Rattle.std.proofs.Common.{ℕ, ◌+◌, ◌-◌, ◌≤◌, ◌≡◌, ◌≢◌, List, [], ◌∷◌, length, map, min, take, All, Bool, false, Some, Result, Ok, Err, IfOk, refl, sym, ap, subst, ◌∙◌, arith}
 use Rattle.std.proofs.lemmas.List.{append-nil, length-append, take_all}
 use Rattle.std.proofs.lemmas.List.Elements.{All-push}
 use Rattle.ec_frame.specs.Building.{bare_payload}
@@ -71,9 +71,10 @@ pub heard_online : (w v : WireState) (number left : ℕ) (answer : List ℕ) (go
 heard_online w v number left answer got h c = record { sent = sent_none w v number got h.sent c; bound = h.bound; short = h.short }
 
 pub if_answered : (a : Action) (s t : LineState) (frame : List ℕ) (sent : WireState) (r : Result ℕ StartError)
-    → IsFrame frame (bare_payload (frame_of a s.number)) → Carries s.wire sent (frame ∷ []) [] → IfOk r (IsHeard a s.number t) → IfOk r (IsAnswered a s t)
-if_answered a s t frame sent (Ok counter) spelled carried heard = record { frame = frame; sent = sent; spelled = spelled; carried = carried; heard = heard }
-if_answered a s t frame sent (Err e) spelled carried heard = tt
+    → IsFrame frame (bare_payload (frame_of a s.number)) → Carries s.wire sent (frame ∷ []) [] → t.asked ≡ Some a → IfOk r (IsHeard a s.number t)
+    → IfOk r (IsAnswered a s t)
+if_answered a s t frame sent (Ok counter) spelled carried asked heard = record { frame = frame; sent = sent; spelled = spelled; carried = carried; asked = asked; heard = heard }
+if_answered a s t frame sent (Err e) spelled carried asked heard = tt
 
 -- ---- what is heard
 

@@ -1,11 +1,12 @@
 -- A wire over which a scan asks: what it has sent, and how many frames at most.
-use Rattle.std.specs.Prelude.{ℕ, ◌+◌, ◌*◌, ◌≡◌, ◌≤◌, List, [], ◌∷◌, length, All}
+use Rattle.std.specs.Prelude.{ℕ, ◌+◌, ◌*◌, ◌≡◌, ◌≤◌, List, [], ◌∷◌, length, Option, Some, All, Contains}
 use Rattle.ec_start.specs.declared.action.Action.{Action}
+use Rattle.ec_start.specs.declared.action.Action.TheVariants.{CountSlaves}
 use Rattle.ec_frame.specs.Building.{bare_payload}
 use Rattle.ec_frame.specs.Frame.{IsFrame}
 use Rattle.ec_start.specs.Actions.{datagram_of, frame_of}
 use Rattle.ec_start.specs.Answered.{IsAnswerIn}
-use Rattle.ec_wire.specs.Wires.{Trace, Nothing, Number, Payloads, WireState, Carries}
+use Rattle.ec_wire.specs.Wires.{Trace, Nothing, Number, Payloads, WireState, Carries, grown}
 use Rattle.ec_scan.specs.Scanning.{IsScanFrame}
 
 -- the most frames for one turn, and the most of a scan: those for two turns of 64 slaves, and those for all of them
@@ -33,6 +34,8 @@ pub record LineState : Type 0 where
   pub left : ℕ
   -- the data of the datagram that came back last
   pub answer : List ℕ
+  -- the action that was asked last
+  pub asked : Option Action
 
 -- what each line keeps
 pub record IsOnLine (wire : WireState) (number left : ℕ) (answer : List ℕ) : Type 0 where
@@ -63,4 +66,27 @@ pub record IsAnswered (a : Action) (s t : LineState) (counter : ℕ) : Type 0 wh
   pub sent : WireState
   pub spelled : IsFrame frame (bare_payload (frame_of a s.number))
   pub carried : Carries s.wire sent (frame ∷ []) []
+  pub asked : t.asked ≡ Some a
   pub heard : IsHeard a s.number t counter
+
+-- ---- how many slaves answered
+
+-- what a wire received before, it has received; and maybe more
+pub record Keeps (old new : WireState) : Type 0 where
+  pub more : List (List ℕ)
+  pub receives : new.received ≡ grown old.received more
+
+-- a payload is one of those that were received, as far as a wire's state says it
+abbrev pub HasCome : Trace → List ℕ → Type 0
+HasCome Nothing payload = Unit {0}
+HasCome (Number told) payload = 1 ≤ told
+HasCome (Payloads told) payload = Contains told payload
+
+-- A payload that came answers a frame which counts the slaves, with this working counter: so many have it passed.
+pub record WasCounted (wire : WireState) (count : ℕ) : Type 0 where
+  pub payload : List ℕ
+  pub number : ℕ
+  pub part : List ℕ
+  pub came : HasCome wire.received payload
+  pub answer : IsAnswerIn payload CountSlaves number part
+  pub counted : answer.datagram.counter ≡ count

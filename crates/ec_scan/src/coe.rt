@@ -1,7 +1,7 @@
 //! What slaves say by CoE of the PDOs that they exchange (ETG.1000.6, "SDO services", "Object dictionary").
-ghost use Rattle.std.specs.Prelude.{◌≡◌, ◌<◌};
+ghost use Rattle.std.specs.Prelude.{◌≡◌, ◌<◌, true};
 ghost use Rattle.ec_start.specs.Doable.{IsDoable};
-ghost use Rattle.ec_scan.specs.Scanning.{IsOfScan};
+ghost use Rattle.ec_scan.specs.Scanning.{IsOfScan, is_upload};
 ghost use Rattle.ec_scan.specs.Showing.{IsUsable};
 
 use crate::error::ScanError;
@@ -77,7 +77,7 @@ fn open_mailbox<W: Wire + Drop, P: Pace + Drop>(
     line.ask_counted(&set_mailbox(slave, 1, send), 1)?;
     let state = State::PreOp;
     line.ask_counted(&Action::AskState { slave, state }, 1)?;
-    await_state(line, slave, state)
+    await_pre_op(line, slave)
 }
 
 /// The action that sets the sync manager of a mailbox.
@@ -100,14 +100,13 @@ fn set_mailbox(slave: usize, number: usize, settings: SyncManagerSettings) -> Ac
 }
 
 /// Waits until a slave is in PREOP.
-fn await_state<W: Wire + Drop, P: Pace + Drop>(
+fn await_pre_op<W: Wire + Drop, P: Pace + Drop>(
     line: &mut Line<W, P>,
     slave: usize,
-    state: State,
 ) -> Result<(), StartError>
-    requires slave { slave < 64 }
-    requires low { state ≡ State.PreOp }
+    requires { slave < 64 }
 {
+    let state = State::PreOp;
     for _ in 0..MAX_POLLS {
         line.ask_counted(&Action::AwaitState { slave, state }, 1)?;
         let answer = line.answer();
@@ -217,7 +216,7 @@ fn bad(asked: &Asked) -> ScanError {
     ScanError::Start(StartError::BadMailbox { slave: asked.slave })
 }
 
-/// Asks for a value, and returns the reply. Messages that are no CoE, such as those of another protocol, and emergencies are set aside.
+/// Asks for a value, and returns the reply.
 fn upload<W: Wire + Drop, P: Pace + Drop>(
     line: &mut Line<W, P>,
     asked: &mut Asked,
@@ -235,6 +234,22 @@ fn upload<W: Wire + Drop, P: Pace + Drop>(
         // what comes is taken, whatever it is
         transfer: Transfer::Upload(SdoValue::long(0)),
     };
+    send_request(line, asked, request)?;
+    await_reply(line, asked, request)
+}
+
+/// Sends a request, and counts it.
+fn send_request<W: Wire + Drop, P: Pace + Drop>(
+    line: &mut Line<W, P>,
+    asked: &mut Asked,
+    request: SdoRequest,
+) -> Result<(), StartError>
+    requires slave { asked.old.slave < 64 }
+    requires usable { IsUsable asked.old.mailbox }
+    requires upload { is_upload request.transfer ≡ true }
+    ensures kept { IsUsable asked.new.mailbox }
+    ensures same { asked.new.slave ≡ asked.old.slave }
+{
     let Asked {
         slave,
         mailbox,
@@ -248,15 +263,27 @@ fn upload<W: Wire + Drop, P: Pace + Drop>(
     };
     line.ask_counted(&sending, 1)?;
     asked.before = before % 7 + 1;
+    Ok(())
+}
+
+/// Waits for the reply to a request. Messages that are no CoE, such as those of another protocol, and emergencies are set aside.
+fn await_reply<W: Wire + Drop, P: Pace + Drop>(
+    line: &mut Line<W, P>,
+    asked: &Asked,
+    request: SdoRequest,
+) -> Result<Reply, StartError>
+    requires slave { asked.now.slave < 64 }
+    requires usable { IsUsable asked.now.mailbox }
+{
     let waiting = Action::AwaitReply {
-        slave,
-        mailbox,
+        slave: asked.slave,
+        mailbox: asked.mailbox,
         request,
     };
     for _ in 0..MAX_POLLS {
         // a counter of 0 says that the mailbox is empty
         if line.ask(&waiting)? == 1 {
-            if let Some(reply) = reply_in(line.answer(), index, subindex) {
+            if let Some(reply) = reply_in(line.answer(), request.index, request.subindex) {
                 return Ok(reply);
             }
         }

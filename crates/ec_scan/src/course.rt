@@ -1,5 +1,6 @@
 //! A scan from the first frame to the last.
 ghost use Rattle.std.specs.Prelude.{◌≤◌, ◌<◌, length, IfOk};
+ghost use Rattle.ec_scan.specs.Lines.{WasCounted};
 
 use crate::coe::read_exchanged;
 use crate::error::ScanError;
@@ -17,8 +18,8 @@ const MAX_SLAVES: u16 = 64;
 /// How often an AL status must show the acknowledgement, and no code, to be a copy of AL control.
 const COPIES: u16 = 50;
 
-/// Scans the slaves of a segment, in the order in which a frame passes them. At the end, also of a scan that failed, all are asked for
-/// INIT.
+/// Scans the slaves of a segment, in the order in which a frame passes them. They are counted at its begin and at its end. Then, also if
+/// it failed, all are asked for INIT.
 ///
 /// # Errors
 ///
@@ -29,11 +30,11 @@ pub fn scan<W: Wire + Drop, P: Pace + Drop>(
     line: &mut Line<W, P>,
 ) -> Result<Vec<Shown>, ScanError>
     ensures few { IfOk result (λ found. length found.items ≤ 64) }
+    ensures counted { IfOk result (λ found. WasCounted line.new.wire (length found.items)) }
 {
     let found = scan_all(alloc, line);
     // also if a slave took all the frames of its turn
-    line.begin_turn();
-    let _ = line.ask(&Action::AskInit);
+    line.dismiss();
     found
 }
 
@@ -43,6 +44,7 @@ fn scan_all<W: Wire + Drop, P: Pace + Drop>(
     line: &mut Line<W, P>,
 ) -> Result<Vec<Shown>, ScanError>
     ensures few { IfOk result (λ found. length found.items ≤ 64) }
+    ensures counted { IfOk result (λ found. WasCounted line.new.wire (length found.items)) }
 {
     let count = line.ask(&Action::CountSlaves)?;
     if count > MAX_SLAVES {
@@ -59,6 +61,8 @@ fn scan_all<W: Wire + Drop, P: Pace + Drop>(
             add_exchanged(alloc, line, slave, shown)?;
         }
     }
+    line.begin_turn();
+    line.ask_counted(&Action::CountSlaves, found.len() as u16)?;
     Ok(found)
 }
 

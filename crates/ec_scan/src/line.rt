@@ -1,7 +1,7 @@
 //! A wire over which a scan asks.
-ghost use Rattle.std.specs.Prelude.{◌≡◌, ◌≤◌, [], length, IfOk};
+ghost use Rattle.std.specs.Prelude.{◌≡◌, ◌≤◌, [], length, IfOk, None};
 ghost use Rattle.ec_start.specs.Doable.{IsDoable};
-ghost use Rattle.ec_scan.specs.Lines.{IsAnswered, IsFresh, IsHeard, most_frames, slave_frames};
+ghost use Rattle.ec_scan.specs.Lines.{IsAnswered, IsFresh, IsHeard, Keeps, most_frames, slave_frames};
 ghost use Rattle.ec_scan.specs.Scanning.{IsOfScan};
 
 use ec_frame::field::MAX_FRAME_LEN;
@@ -34,6 +34,8 @@ pub struct Line<W: Wire + Drop, P: Pace + Drop> {
     left: u64,
     // the data of the datagram that came back last
     answer: Frame,
+    // the action whose frame was sent last
+    asked: Option<Action>,
 }
 
 impl<W: Wire + Drop, P: Pace + Drop> Model for Line<W, P> {
@@ -41,7 +43,7 @@ impl<W: Wire + Drop, P: Pace + Drop> Model for Line<W, P> {
 
     ghost Value = { LineState };
 
-    ghost view = { λ l. record { wire = W.state l.wire; number = l.number; left = l.left; answer = l.answer.items } };
+    ghost view = { λ l. record { wire = W.state l.wire; number = l.number; left = l.left; answer = l.answer.items; asked = l.asked } };
 
     ghost invariant = { λ l. IsOnLine (W.state l.wire) l.number l.left l.answer.items };
 }
@@ -50,7 +52,7 @@ impl<W: Wire + Drop, P: Pace + Drop> Line<W, P> {
     /// A line over a wire that has sent nothing, at a pace between polls.
     pub fn new(wire: W, pace: P) -> Line<W, P>
         requires { IsFresh (W.state wire).sent }
-        ensures { result ≡ record { wire = W.state wire; number = 0; left = 4096; answer = [] } }
+        ensures { result ≡ record { wire = W.state wire; number = 0; left = 4096; answer = []; asked = None } }
     {
         Line {
             wire,
@@ -58,6 +60,7 @@ impl<W: Wire + Drop, P: Pace + Drop> Line<W, P> {
             number: 0,
             left: FIRST_FRAMES,
             answer: Frame::new(),
+            asked: None,
         }
     }
 
@@ -76,6 +79,21 @@ impl<W: Wire + Drop, P: Pace + Drop> Line<W, P> {
         self.number
     }
 
+    /// The action that was asked last, whether or not its frame came back; `None` before the first. INIT at the end isn't counted.
+    pub fn asked(&self) -> Option<Action>
+        ensures { result ≡ self.now.asked }
+    {
+        self.asked
+    }
+
+    /// Returns the wire.
+    pub fn into_wire(self) -> W
+        ensures { W.state result ≡ self.wire }
+    {
+        let Line { wire, .. } = self;
+        wire
+    }
+
     /// Begins the next turn: it may take [`SLAVE_FRAMES`] frames, as far as a scan has them left.
     pub(crate) fn begin_turn(&mut self)
         ensures wire { self.new.wire ≡ self.old.wire }
@@ -84,16 +102,28 @@ impl<W: Wire + Drop, P: Pace + Drop> Line<W, P> {
         self.left = SLAVE_FRAMES.min(MOST_FRAMES - self.number);
     }
 
+    /// Asks all slaves for INIT, in a turn of its own, and leaves what was asked last.
+    pub(crate) fn dismiss(&mut self)
+        ensures asked { self.new.asked ≡ self.old.asked }
+        ensures kept { Keeps self.old.wire self.new.wire }
+    {
+        let asked = self.asked;
+        self.begin_turn();
+        let _ = self.ask(&Action::AskInit);
+        self.asked = asked;
+    }
+
     /// Sends the frame of an action, and returns the working counter with which it came back. Its data are then the answer of the line.
     ///
     /// # Errors
     ///
     /// `Lost` if a call of the wire was a fault or 64 payloads came that don't answer, `TooSlow` if no frame is left.
-    #[tactic(auto, using(crate::proofs::LineLemmas::unsent_online))]
+    #[tactic(auto, using(crate::proofs::LineLemmas::unsent_online, crate::proofs::KeptLemmas::kept, crate::proofs::KeptLemmas::kept_by, crate::proofs::KeptLemmas::kept_on))]
     pub(crate) fn ask(&mut self, action: &Action) -> Result<u16, StartError>
         requires doable { IsDoable action.now }
         requires of_scan { IsOfScan action.now }
-        ensures { IfOk result (IsAnswered action.now self.old self.new) }
+        ensures answered { IfOk result (IsAnswered action.now self.old self.new) }
+        ensures kept { Keeps self.old.wire self.new.wire }
     {
         if self.left == 0 {
             return Err(self.too_slow());
@@ -102,6 +132,7 @@ impl<W: Wire + Drop, P: Pace + Drop> Line<W, P> {
         let mut frame = Frame::new();
         write_frame(action, number, &mut frame);
         self.pace.before(&frame);
+        self.asked = Some(*action);
         self.left -= 1;
         self.number += 1;
         if !send_on(&mut self.wire, frame.as_slice()) {
@@ -139,12 +170,14 @@ impl<W: Wire + Drop, P: Pace + Drop> Line<W, P> {
     }
 
     /// Receives until a payload answers the frame of an action with a number.
-    #[tactic(auto, using(crate::proofs::LineLemmas::heard_online))]
+    #[tactic(auto, using(crate::proofs::LineLemmas::heard_online, crate::proofs::KeptLemmas::kept, crate::proofs::KeptLemmas::kept_by, crate::proofs::KeptLemmas::kept_on))]
     fn hear(&mut self, action: &Action, number: u64) -> Result<u16, StartError>
         requires { IsDoable action.now }
         ensures heard { IfOk result (IsHeard action.now number self.new) }
         ensures number { self.new.number ≡ self.old.number }
         ensures left { self.new.left ≡ self.old.left }
+        ensures asked { self.new.asked ≡ self.old.asked }
+        ensures kept { Keeps self.old.wire self.new.wire }
     {
         let mut buffer = [0; MAX_FRAME_LEN];
         for _ in 0..MAX_FOREIGN {

@@ -9,7 +9,9 @@ mod wire;
 use crate::args::number;
 use crate::scans::wire::Hostile;
 use ec_found::{Found, FoundError, found_of, printed};
+use ec_link::{LinkFault, MachineError};
 use ec_scan::{Line, MOST_FRAMES, ScanError, Shown, scan};
+use ec_table::OrMemory;
 use ec_wire::Restless;
 use std::alloc::{AllocError, Global};
 use std::io;
@@ -118,14 +120,22 @@ fn try_table(alloc: Global, shown: &[Shown], figures: &mut Figures) -> Result<()
         Err(FoundError::Memory) => return Err(AllocError),
         Err(FoundError::Refused(error)) => {
             figures.planless = figures.planless.saturating_add(1);
-            // a text that isn't read as a table is a fault of its writer
-            if matches!(error, ec_link::MachineError::Table(_)) {
+            if is_of_writer(error) {
                 figures.is_right = false;
             }
         }
         Err(FoundError::Otherwise(_)) => figures.is_right = false,
     }
     Ok(())
+}
+
+/// Whether the writer of a text is at fault: it isn't read as a table, or a slave assigns an entry twice.
+fn is_of_writer(error: MachineError) -> bool {
+    match error {
+        MachineError::Table(_) => true,
+        MachineError::Link(OrMemory::Refused(LinkFault::EntryTwice(_))) => true,
+        MachineError::Link(_) => false,
+    }
 }
 
 fn has_unsaid(found: &[Found]) -> bool {

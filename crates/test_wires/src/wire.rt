@@ -4,6 +4,7 @@ mod calls;
 mod cycles;
 mod fakes;
 mod machines;
+mod repeats;
 mod scans;
 mod sizes;
 mod startups;
@@ -12,6 +13,7 @@ mod tap;
 mod trials;
 
 use self::calls::{expect_calls, expect_memory};
+use self::repeats::expect_left_out;
 use self::scans::{expect_lost_scans, expect_scan};
 use self::sizes::expect_size;
 use self::tables::{FULL_TABLE, THREE_SLAVES};
@@ -44,6 +46,12 @@ fn many_slaves(rt: HostRuntime) {
 fn scanned_slaves(rt: HostRuntime) {
     expect_scan(&rt, THREE_SLAVES);
     expect_lost_scans(&rt, THREE_SLAVES);
+}
+
+// A PDO that repeats an entry is left out of the table, with a comment.
+#[test]
+fn repeated_entries(rt: HostRuntime) {
+    expect_left_out(&rt);
 }
 
 // There is memory for a wire to each number of slaves, with room for one payload and for thousands.

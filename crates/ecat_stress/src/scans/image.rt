@@ -71,11 +71,11 @@ fn push_long_pdo(random: &mut Random, words: &mut Vec<u16>) -> Result<(), AllocE
     Ok(())
 }
 
-/// A word of a category: indices of PDOs and objects, small numbers, or any.
+/// A word of a category: an index of a PDO or of one of a few objects, a small number, or any.
 fn body_word(random: &mut Random) -> u16 {
     match random.below(5) {
         0 => 0x1600 + random.below(0x600) as u16,
-        1 => 0x6000 + random.below(0x1000) as u16,
+        1 => 0x6000 + random.below(16) as u16,
         2 => random.below(20) as u16,
         3 => 256 * random.below(65) as u16,
         _ => any_word(random),

@@ -29,7 +29,7 @@ fn line_to(
 }
 
 /// What slaves are.
-fn all_found(rt: &(impl AllocGlobal + Abort), shown: &[Shown]) -> Vec<Found> {
+pub fn all_found(rt: &(impl AllocGlobal + Abort), shown: &[Shown]) -> Vec<Found> {
     let mut found = Vec::new(rt.alloc());
     for slave in shown {
         let one = found_of(rt.alloc(), slave).expect(rt, "memory");
