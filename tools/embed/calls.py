@@ -70,9 +70,32 @@ def runs_as_real(table):
         must([v.name for v in m.variables() if v.is_signed] == ["force_wanted"], "and no other has")
 
 
+def refusals_have_names(opens):
+    """What opens a table that is refused says the number, the name and the values of the refusal."""
+    for text, wanted in (("[[", (11, "Toml", [])), ("b = 1", (12, "BadKey", [0, 0]))):
+        try:
+            opens(text)
+        except ecat.Refused as refusal:
+            seen = (refusal.number, refusal.name, refusal.values)
+            must(seen == wanted, f"a table is refused as {wanted}, and not as {seen}")
+        else:
+            sys.exit("calls: the table must be refused")
+
+
+def denied_before_start(table):
+    """Slaves in INIT make firmware steps, and let nobody at their process data."""
+    with ecat.Segment(table) as slaves:
+        must(slaves.get(PRESS, 0) is None and not slaves.put(PRESS, 0, 1), "a slave in INIT denies its outputs and inputs")
+        must(slaves.outputs(PRESS) == b"" and slaves.set_inputs(PRESS, bytes(4)) == 0, "and as a whole")
+        must([slaves.serve(slave) for slave in (PANEL, PRESS, 2)] == [True, True, False], "two slaves are there")
+
+
 def main():
     with open(sys.argv[1]) as file:
         table = file.read()
+    for opens in (ecat.Master, ecat.Segment):
+        refusals_have_names(opens)
+    denied_before_start(table)
     failure = fails(table, ecat.Segment(""))
     must((failure.number, failure.name, failure.values) == (26, "Count", [0]) and "2" in failure.words, "no slave is there")
     failure = fails(table, ecat.Segment(table.replace("0x0302", "0x0303")))

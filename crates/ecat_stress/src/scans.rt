@@ -2,7 +2,7 @@
 //!
 //! For each seed a few slaves answer with an SII of their own: lengths that overrun, PDOs of 255 entries, strings of any bytes, mailboxes
 //! over registers; and mailboxes reply with anything. Each scan must end within the frames that it may send, by a table that is read
-//! back, or by a refusal.
+//! back, or by a refusal. A slave that is slow at each word of an SII without an end is given up.
 mod image;
 mod wire;
 
@@ -10,7 +10,7 @@ use crate::args::number;
 use crate::scans::wire::Hostile;
 use ec_found::{Found, FoundError, found_of, printed};
 use ec_link::{LinkFault, MachineError};
-use ec_scan::{Line, MOST_FRAMES, ScanError, Shown, scan};
+use ec_scan::{Line, MOST_FRAMES, SLAVE_FRAMES, ScanError, Shown, scan};
 use ec_table::OrMemory;
 use ec_wire::Restless;
 use std::alloc::{AllocError, Global};
@@ -22,6 +22,9 @@ use test_data::Random;
 const SCANS: u32 = 1_000;
 
 const SHARE: u32 = 20;
+
+/// How many polls a slow slave takes for each word. It has 2048 pairs of words to be read, and one turn sends 65,536 frames.
+const POLLS: u32 = 40;
 
 /// How scans ended.
 #[derive(Drop)]
@@ -58,7 +61,7 @@ pub fn run<W: Write>(alloc: Global, args: &[String], output: &mut W) -> io::Resu
 
 /// The gate's share.
 pub fn run_share<W: Write>(alloc: Global, output: &mut W) -> io::Result<bool> {
-    let is_right = try_scans(alloc, 1, SHARE)?.is_right;
+    let is_right = try_scans(alloc, 1, SHARE)?.is_right && is_given_up(alloc)?;
     let word = if is_right {
         "all as it must be"
     } else {
@@ -102,6 +105,13 @@ fn try_scan(alloc: Global, seed: u64, figures: &mut Figures) -> Result<(), Alloc
             Ok(())
         }
     }
+}
+
+/// Whether the scan of a slow slave is refused once its turn is over.
+fn is_given_up(alloc: Global) -> Result<bool, AllocError> {
+    let mut line = Line::new(Hostile::slow(alloc, POLLS)?, Restless);
+    let is_refused = matches!(scan(alloc, &mut line), Err(ScanError::Start(_)));
+    Ok(is_refused && line.number() >= SLAVE_FRAMES && line.number() <= 2 * SLAVE_FRAMES)
 }
 
 /// Makes the table of what slaves show.

@@ -5,11 +5,12 @@ use std::process::Abort;
 
 /// What is done to a state machine by its word, the control word of a request, whether it was taken, and the status word and the
 /// status code afterwards. `starts` and `resets` are power-on; `asks` is a request whose checks all pass, `fails` one whose checks all
-/// fail, and `lacks_inputs` one where that of the inputs alone fails; `waits` is a request that a step lets wait, and `decides` a step
-/// that decides it; `faults` is a fault of the application, which counts only in OP; `copies` is the step of a device without firmware.
+/// fail, and `lacks_inputs` one where that of the inputs alone fails; `waits` is a request that a step lets wait, and `steps` a later
+/// step, which decides one that waits; `faults` is a fault of the application, which counts only in OP; `copies` is the step of a
+/// device without firmware.
 type Step = (&'static str, u16, bool, u16, u16);
 
-const STEPS: [Step; 32] = [
+const STEPS: [Step; 33] = [
     // INIT refuses what skips a state.
     ("starts", 0x0000, true, 0x0001, 0x0000),
     ("asks", 0x0004, true, 0x0011, 0x0011),
@@ -21,6 +22,7 @@ const STEPS: [Step; 32] = [
     ("asks", 0x0002, true, 0x0002, 0x0000),
     ("asks", 0x0008, true, 0x0012, 0x0011),
     ("asks", 0x0004, true, 0x0012, 0x0011),
+    ("steps", 0x0012, true, 0x0012, 0x0011),
     ("asks", 0x0012, true, 0x0002, 0x0000),
     // A fault takes OP to SAFEOP.
     ("starts", 0x0000, true, 0x0001, 0x0000),
@@ -47,7 +49,7 @@ const STEPS: [Step; 32] = [
     // A step of slow firmware shows nothing of the request, and a later one decides it.
     ("starts", 0x0000, true, 0x0001, 0x0000),
     ("waits", 0x0002, true, 0x0001, 0x0000),
-    ("decides", 0x0002, true, 0x0002, 0x0000),
+    ("steps", 0x0002, true, 0x0002, 0x0000),
 ];
 
 /// The checks of a request by its word.
@@ -70,7 +72,7 @@ fn take_step(rt: &impl Abort, al: &mut Al, word: &str, control: u16) -> bool {
             al.request();
             al.wait();
         }
-        "decides" => al.step(control, checks_of("asks")),
+        "steps" => al.step(control, checks_of("asks")),
         _ => {
             expect(rt, matches!(word, "asks" | "fails" | "lacks_inputs"), word);
             al.request();

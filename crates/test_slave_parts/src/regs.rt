@@ -48,21 +48,28 @@ fn output_fmmu(rt: HostRuntime) {
         writes: true,
         active: true,
     };
-    let are_same = settings == fields && encode_fmmu(&settings) == bytes;
+    // of the byte of the stop bit three bits count
+    let mut high = bytes;
+    high[7] = 0xFF;
+    let are_same = settings == fields
+        && encode_fmmu(&settings) == bytes
+        && decode_fmmu(&high) == fields;
     expect(&rt, are_same, "an output FMMU");
 }
 
-// Three buffers of one byte that don't fit at the last address, a mailbox of that byte, three buffers of 65535 bytes, and two
-// bytes that the master reads.
+// Three buffers of one byte that don't fit at the last address, a mailbox of that byte and one of two, three buffers of 65535 bytes,
+// and two bytes that the master reads.
 #[test]
 fn spans_at_the_end_of_the_ram(rt: HostRuntime) {
     let buffered = decode_manager(&[0xFF, 0x2F, 0x01, 0x00, 0x24, 0x00, 0x01, 0x00]);
     let mailbox = decode_manager(&[0xFF, 0x2F, 0x01, 0x00, 0x26, 0x00, 0x01, 0x00]);
+    let longer = decode_manager(&[0xFF, 0x2F, 0x02, 0x00, 0x26, 0x00, 0x01, 0x00]);
     let longest = decode_manager(&[0x00, 0x10, 0xFF, 0xFF, 0x24, 0x00, 0x01, 0x00]);
     let input = decode_manager(&[0x00, 0x14, 0x02, 0x00, 0x20, 0x00, 0x01, 0x00]);
     let are_set = [
         buffered.is_set(),
         mailbox.is_set(),
+        longer.is_set(),
         longest.is_set(),
         input.is_set(),
     ];
@@ -70,7 +77,7 @@ fn spans_at_the_end_of_the_ram(rt: HostRuntime) {
     expect_same(
         &rt,
         &(are_set, buffered.span(), are_so),
-        &([false, true, false, true], 3, true),
+        &([false, true, false, false, true], 3, true),
         "spans",
     );
 }

@@ -8,6 +8,15 @@ const CATEGORIES: usize = 0x40;
 /// The types of categories, some of which a scan reads, and the end mark.
 const TYPES: [u16; 8] = [10, 30, 40, 41, 50, 51, 60, 0xFFFF];
 
+/// The words of an SII whose categories have a word each and no end.
+pub fn endless_image(alloc: Global) -> Result<Vec<u16>, AllocError> {
+    let mut words = Vec::new(alloc);
+    for _ in 0..0x2000 {
+        words.push(1)?;
+    }
+    Ok(words)
+}
+
 /// The words of an SII.
 pub fn random_image(alloc: Global, random: &mut Random) -> Result<Vec<u16>, AllocError> {
     let mut words = Vec::new(alloc);

@@ -1,5 +1,5 @@
 //! A wire to slaves that answer as a seed decides.
-use crate::scans::image::{any_word, random_image};
+use crate::scans::image::{any_word, endless_image, random_image};
 use byteorder::{ByteOrder, LittleEndian};
 use ec_frame::Frame;
 use ec_wire::{Trouble, Wire};
@@ -45,6 +45,9 @@ pub struct Hostile {
     /// The word address that was asked for, and the state.
     address: usize,
     state: u8,
+    /// How many polls a word takes, and how many of them were made. A wait that a seed makes is besides.
+    polls: u32,
+    polled: u32,
     /// The index and the subindex of the last request, three bytes.
     object: [u8; 3],
 }
@@ -55,21 +58,33 @@ impl Hostile {
         let mut random = random;
         let image = random_image(alloc, &mut random)?;
         let slaves = random.place(MOST_SLAVES + 1) as u16;
-        Ok(Hostile {
+        Ok(Hostile::of(random, image, slaves, 0))
+    }
+
+    /// A slave with categories as long as a scan reads, each word of which takes so many polls.
+    pub fn slow(alloc: Global, polls: u32) -> Result<Hostile, AllocError> {
+        Ok(Hostile::of(Random::new(0), endless_image(alloc)?, 1, polls))
+    }
+
+    fn of(random: Random, image: Vec<u16>, slaves: u16, polls: u32) -> Hostile {
+        Hostile {
             random,
             image,
             slaves,
             frame: Frame::new(),
             address: 0,
             state: 1,
+            polls,
+            polled: 0,
             object: [0; 3],
-        })
+        }
     }
 
     /// Notes what a frame writes.
     fn note(&mut self, ado: u16, content: &[u8]) {
         if ado == SII && content.len() == 6 {
             self.address = LittleEndian::read_u32(&content[2..6]) as usize;
+            self.polled = 0;
         } else if ado == AL_CONTROL {
             self.state = content.first().copied().unwrap_or(1) % 16;
         } else if ado >= RAM && content.len() >= 12 {
@@ -99,8 +114,9 @@ impl Hostile {
         if content.len() < 10 {
             return 1;
         }
-        if self.random.in_hundred(2) {
+        if self.polled < self.polls || self.random.in_hundred(2) {
             // busy
+            self.polled = self.polled.saturating_add(1);
             content[1] = 0x80;
             return 1;
         }
