@@ -327,7 +327,8 @@ ECAT_CALL unsigned ecat_counters(const struct ecat *m, size_t part, uint16_t *fi
     return ECAT_AS(unsigned, counted.count);
 }
 
-/* Sets a variable of the outputs. Returns false if there is no such variable, it is an input, or it has too few bits. */
+/* Sets a variable of the outputs. A negative value is passed as its two's complement in the variable's bits: of 16, value & 0xFFFF.
+   Returns false if there is no such variable, it is an input, or it has too few bits. */
 ECAT_CALL bool ecat_set(struct ecat *m, size_t variable, uint64_t value) {
     if (!m || !m->at) return false;
     return ecat_c_set(ecat_lent(m), variable, value, m).is_done;

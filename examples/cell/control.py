@@ -4,23 +4,24 @@
     control.py [ADDRESS:PORT]
 
 While switch 0 is on, the axis goes where the lever is; else it stays where it is. The gauge shows its position, and each lamp a switch.
-Switch 7 ends the program, and so does Ctrl-C: the drive is switched off step by step, and all outputs become 0. If cycles fail on end, or
+Switch 7 ends the program, and so does Ctrl-C: the drive is switched off step by step, and all outputs become 0. If cycles fail in a row, or
 a slave leaves OP, all are started up again.
 
-It prints what happens, and ends with status 1 if the slaves don't come up for ten seconds.
+It prints what happens, and ends with status 1 if twenty start-ups in a row fail. Ctrl-C during a start-up ends it so too, once that one
+has failed; outputs aren't set then.
 """
 import pathlib
 import signal
-import socket
 import sys
 import time
 
 import ecat
+from ecat.wires import UdpWire
 
 TABLE = pathlib.Path(__file__).with_name("cell.toml").read_text()
 # seconds between two cycles, as `axis` is told in the table, and between two start-ups
 PERIOD, PAUSE = 0.002, 0.5
-# how many cycles may fail on end, and how many start-ups; how many cycles the drive has for the way down
+# how many cycles may fail in a row, and how many start-ups; how many cycles the drive has for the way down
 MOST_FAILED, MOST_STARTED, MOST_DOWN = 5, 20, 500
 FOLLOW, END, OP = 0x01, 0x80, 8
 FAULT, DISABLED, ENABLED = "fault", "switch on disabled", "operation enabled"
@@ -37,25 +38,6 @@ STATES = (
 OTHER = ("changing", 0, 0, 0, 0)
 
 
-class Wire:
-    """A socket to the slaves. From its last frame on, it waits half a second for answers."""
-
-    def __init__(self, address, port):
-        self.socket = socket.socket(socket.AF_INET, socket.SOCK_DGRAM)
-        self.socket.connect((address, port))
-
-    def send(self, frame):
-        self.socket.send(frame)
-        self.end = time.monotonic() + 0.5
-
-    def receive(self):
-        self.socket.settimeout(max(self.end - time.monotonic(), 0.000001))
-        try:
-            return self.socket.recv(1500)
-        except OSError:
-            return b""
-
-
 class Cell:
     """The machine: its master, and what was last seen of it."""
 
@@ -64,9 +46,11 @@ class Cell:
         self.state, self.place, self.is_ending = None, None, False
 
     def start_up(self):
-        """Brings the slaves up by a new master."""
+        """Brings the slaves up by a new master. After a failure its frames take new numbers, so no late answer fits them."""
+        self.master = ecat.Master(TABLE)
         for _ in range(MOST_STARTED):
-            self.master = ecat.Master(TABLE)
+            if self.is_ending:
+                sys.exit("ended before the slaves came up")
             try:
                 self.master.bring_up(self.wire)
                 print("all slaves are in OP", flush=True)
@@ -101,8 +85,8 @@ class Cell:
         m, position = self.master, self.master.signed("position")
         follows = self.drive(True) and m["switches"] & FOLLOW
         target = m.signed("lever") if follows else position
-        m["target"] = target & 0xFFFFFFFF
-        m["gauge"] = max(-0x8000, min(0x7FFF, position)) & 0xFFFF
+        m["target"] = target
+        m["gauge"] = max(-0x8000, min(0x7FFF, position))
         m["lamps"] = m["switches"]
         if follows and target == position != self.place:
             self.place = position
@@ -125,7 +109,7 @@ class Cell:
         m = self.master
         for _ in range(MOST_DOWN):
             if self.cycle():
-                m["target"] = m.signed("position") & 0xFFFFFFFF
+                m["target"] = m.signed("position")
                 if self.drive(False):
                     break
         m.set_outputs(bytes(m.set_outputs(b"")))
@@ -135,7 +119,7 @@ class Cell:
 
 def main():
     address, _, port = (sys.argv[1:] + ["127.0.0.1:34980"])[0].partition(":")
-    cell = Cell(Wire(address, int(port)))
+    cell = Cell(UdpWire(address, int(port)))
 
     def end(*_):
         cell.is_ending = True

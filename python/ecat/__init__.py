@@ -6,8 +6,8 @@
         if m.cycle(wire).taken:
             print(m["switches"])
 
-`Master` and `Segment` have the calls of ecat.h, which describes them. A wire is anything with `send` and `receive`, such as a class
-of yours over a socket; a `Segment` is one. The library is the file that ECAT_LIBRARY names, else the installed one. Its calls hold
+`Master` and `Segment` have the calls of ecat.h, which describes them. A wire is anything with `send` and `receive`: `ecat.wires` has
+those over UDP and network cards, and a `Segment` is one. The library is the file that ECAT_LIBRARY names, else the installed one. Its calls hold
 Python's lock, so threads may share a handle.
 """
 from __future__ import annotations
@@ -147,7 +147,14 @@ class Master(Owner):
         return lib.ecat_get_signed(self._handle, self.variable(name))
 
     def __setitem__(self, name: str, value: int) -> None:
-        if not 0 <= value < 1 << 64 or not lib.ecat_set(self._handle, self.variable(name), value):
+        """A variable with a sign takes negative values too. m[NAME] then reads its bits without the sign, signed(NAME) its value."""
+        number, word = self.variable(name), value
+        if value < 0:
+            info = Info()
+            lib.ecat_variable_info(self._handle, number, ctypes.byref(info))
+            # the two's complement, if it has a sign and holds the value
+            word += 1 << info.bits if info.is_signed and -value <= 1 << info.bits - 1 else 0
+        if not 0 <= word < 1 << 64 or not lib.ecat_set(self._handle, number, word):
             raise ValueError(f"{name} is no output that holds {value}")
 
     def set_outputs(self, image: bytes) -> int:

@@ -240,6 +240,13 @@ def check_sii() -> None:
     expect("a command behind an error isn't done", seen.read(0x0502, 2)[1] & 0xA0, 0x20)
     seen.set(0x0502, b"\0\0")
     expect("the error is cleared", seen.read(0x0502, 2), bytes(2))
+    once = Plant([models.EL1008Nack()])
+    seen = named(Direct(once))
+    seen.set(0x0502, struct.pack("<BBI", 0, 1, 0x7E))
+    once.pass_time(0.001)
+    expect("a read isn't acknowledged", seen.read(0x0502, 2), b"\x00\x20")
+    seen.set(0x0502, b"\0\0")
+    expect("the same read again: an entry, manager 0", seen.sii(0x7E), b"\1\0\0\0")
     given = Plant([models.SiiOfPdi()])
     seen = named(Direct(given))
     given.devices[0].esc.memory[0x0501] = 1

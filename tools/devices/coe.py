@@ -85,6 +85,9 @@ class Coe(Smart):
     is_keeping = is_wrong = is_beside = is_erring = False
     # an upload's reply doesn't say its size; it brings four bytes of a shorter value; it is never expedited
     is_unsized = is_wide = is_normal = False
+    # assignments that it has no object of; objects of which each transfer is aborted, by this code
+    lacking: tuple[int, ...] = ()
+    closed: dict[int, int] = {}
     # objects that show another's value: index and subindex to the other's
     shown: dict[tuple[int, int], tuple[int, int]] = {}
     # the highest value that an object takes
@@ -98,7 +101,7 @@ class Coe(Smart):
         self.rows = {pdo.index: Row([long_of(entry) for entry in self.mapped.get(pdo.index, pdo.entries)], 4) for pdo in pdos}
         chosen = self.delivered or tuple(tuple(pdo.index for pdo in way) for way in (self.outputs, self.inputs))
         for index, way, indices in ((OUTPUTS_ASSIGNED, self.outputs, chosen[0]), (INPUTS_ASSIGNED, self.inputs, chosen[1])):
-            if way:
+            if way and index not in self.lacking:
                 self.rows[index] = Row(list(indices), 2)
         self.replies: list[tuple[float, bytes]] = []
         self.counter = self.heard = self.took = self.answered = 0
@@ -118,9 +121,10 @@ class Coe(Smart):
         return found | self.settings
 
     def assigned(self, way: int) -> tuple[Pdo, ...]:
-        """The objects of a direction that are assigned now, with what they map now."""
+        """The objects of a direction that are assigned now, with what they map now; all of them if nothing says which."""
         row = self.rows.get((OUTPUTS_ASSIGNED, INPUTS_ASSIGNED)[way])
-        return tuple(Pdo(index, self.entries(index)) for index in (row.values if row else ()) if index in self.rows)
+        indices = row.values if row else [pdo.index for pdo in (self.outputs, self.inputs)[way]]
+        return tuple(Pdo(index, self.entries(index)) for index in indices if index in self.rows)
 
     def entries(self, index: int) -> tuple[tuple[int, int, int], ...]:
         return tuple((value >> 16, value >> 8 & 0xFF, value & 0xFF) for value in self.rows[index].values)
@@ -201,6 +205,8 @@ class Coe(Smart):
         kind = command >> 5
         if command & 0x10:
             raise Abort(BAD_ACCESS)
+        if index in self.closed:
+            raise Abort(self.closed[index])
         if kind == 2:
             value = self.upload(index, sub)
             self.transfers.append((self.state, False, index, sub))

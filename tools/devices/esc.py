@@ -188,7 +188,9 @@ class Esc:
         self.request, self.copied = False, 0x1F
         self.fed: float | None = None
         self.is_expired = False
-        self.sii_due = 0.0
+        # when a read of the EEPROM ends, and how long one takes; reads that it doesn't acknowledge, by word address: how many of them
+        self.sii_due, self.sii_time = 0.0, SII_TIME
+        self.sii_silent: dict[int, int] = {}
         # what no master should do: RAM that no manager guards, registers that were written, commands to the SII
         self.strays: set[int] = set()
         self.written: set[int] = set()
@@ -399,19 +401,22 @@ class Esc:
             self.put_word(SII_CONTROL, state & 0x00FF)
         elif command == SII_READ and not state & SII_ERROR:
             self.put_word(SII_CONTROL, state | SII_BUSY)
-            self.sii_due = self.now + SII_TIME
+            self.sii_due = self.now + self.sii_time
         else:
             self.put_word(SII_CONTROL, state & ~0x0700 | SII_ERROR)
 
     def end_sii(self) -> None:
-        """A read of the EEPROM ends: four bytes, or eight, are there [ESC 0x0502 bit 6, 0x0508]."""
+        """A read of the EEPROM ends: four bytes, or eight, are there, or it wasn't acknowledged [ESC 0x0502 bits 6 and 13, 0x0508]."""
         state = self.word(SII_CONTROL)
         count = 8 if state & SII_EIGHT else 4
-        if not self.eeprom:
+        address = struct.unpack_from("<I", self.memory, SII_ADDRESS)[0]
+        silent = self.sii_silent.get(address, 0)
+        if silent:
+            self.sii_silent[address] = silent - 1
+        if silent or not self.eeprom:
             self.put_word(SII_CONTROL, state & ~(SII_BUSY | 0x0700) | SII_ERROR)
             return
-        at = 2 * struct.unpack_from("<I", self.memory, SII_ADDRESS)[0]
-        self.memory[SII_DATA : SII_DATA + count] = self.eeprom[at : at + count].ljust(count, b"\xff")
+        self.memory[SII_DATA : SII_DATA + count] = self.eeprom[2 * address : 2 * address + count].ljust(count, b"\xff")
         self.put_word(SII_CONTROL, state & ~(SII_BUSY | 0x0700))
 
     # ---- states and watchdog

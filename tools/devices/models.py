@@ -7,9 +7,9 @@ from __future__ import annotations
 
 import struct
 
-from coe import EOE, Coe, emergency
+from coe import BAD_STATE, EOE, OUTPUTS_ASSIGNED, Coe, emergency
 from esc import BYTEWISE, ET1100, ET1200, HAS_CLOCKS, NO_LRW, SII_CONTROL, SII_EIGHT, Chip
-from slave import BOOT, INIT, OP, PREOP, SAFEOP, WATCHDOG, Area, Pdo, Slave, Smart, Trial, Variable, bytes_of, places_of
+from slave import BOOT, INIT, OP, PREOP, SAFEOP, WATCHDOG, Area, Parted, Pdo, Slave, Smart, Trial, Variable, bytes_of, places_of
 
 
 def channels(first: int, entry: int, count: int, step: int = 1) -> tuple[Pdo, ...]:
@@ -76,6 +76,65 @@ class EL2008Elsewhere(EL2008):
 
     def begin(self) -> None:
         self.esc.copied = 0x0F
+
+
+# ---- terminals of which a table can say a part: it brings them up, and the rest of their data isn't moved
+
+
+class EL1252(Parted):
+    """Two digital inputs on manager 0, and their latches on manager 1, of which its SII says no length (?)."""
+
+    product = 0x04E43052
+    chip = ET1200
+    in_area = Area(0, 0x1000, 0x00)
+    inputs = channels(0x1A00, 0x6000, 2)
+    variables = (Variable("switches", bits_of(0x6000, 2), 0x2),)
+    more = {"inputs": (Area(1, 0x09AE, 0x00), 0, (Pdo(0x1A13, ((0x1D09, 0xAE, 8), (0x1D09, 0xB0, 64))),))}
+
+
+class EL2809(Parted):
+    """Sixteen digital outputs, eight on each of the managers 0 and 1."""
+
+    product, revision = 0x0AF93052, 0x00110000
+    chip = ET1200
+    out_area, outputs, variables = EL2008.out_area, EL2008.outputs, EL2008.variables
+    more = {"outputs": (Area(1, 0x0F01, 0x44), 1, channels(0x1608, 0x7080, 8))}
+
+
+class PartedBothWays(EL2809):
+    """Two managers for each direction."""
+
+    vendor, product = 0x5A5, 0x0150
+    in_area, inputs = Area(2, 0x1000, 0x00), EL1008.inputs
+    variables = EL2809.variables + EL1008.variables
+    more = EL2809.more | {"inputs": (Area(3, 0x1100, 0x00), 1, channels(0x1A08, 0x6080, 8))}
+
+
+class Longer(Parted):
+    """Eight digital inputs on a manager of two bytes."""
+
+    vendor, product = 0x5A5, 0x0151
+    chip = ET1200
+    in_area, inputs, variables = EL1008.in_area, EL1008.inputs, EL1008.variables
+    more = {"inputs": (EL1008.in_area, 2, ())}
+
+
+class BehindRepeats(Parted):
+    """Behind an object that repeats an entry stands another on the same manager: a byte each."""
+
+    vendor, product = 0x5A5, 0x0152
+    chip = ET1200
+    out_area, outputs, variables = EL2008.out_area, (Pdo(0x1600, ((0x7000, 1, 8),)),), (Variable("lamps", ((0x7000, 1),), 0xC5),)
+    more = {"outputs": (EL2008.out_area, 3, (Pdo(0x1601, ((0x7000, 1, 8),)), Pdo(0x1602, ((0x7010, 1, 8),))))}
+
+
+class BehindWide(Parted):
+    """The same behind an object of 240 bits."""
+
+    vendor, product = 0x5A5, 0x0153
+    chip = ET1200
+    in_area, inputs, variables = EL1008.in_area, (Pdo(0x1A00, ((0x6000, 1, 8),)),), (Variable("switches", ((0x6000, 1),), 0x5A),)
+    more = {"inputs": (EL1008.in_area, 32, (Pdo(0x1A01, ((0x6010, 1, 240),)), Pdo(0x1A02, ((0x6020, 1, 8),))))}
 
 
 # ---- analog and serial terminals
@@ -744,3 +803,61 @@ class DriveByClocks(DriveQuick):
 
     def safeop_fault(self) -> int:
         return super().safeop_fault() or (0 if self.esc.memory[0x0981] & 1 else 0x0030)
+
+
+# ---- what a scan reads besides
+
+
+class EL1008Nack(EL1008):
+    """Its EEPROM doesn't acknowledge one read of the words 0x7E and 0x7F: its first three objects stand before them."""
+
+    # 0x40: a string of 10 letters has 8 words, what is general 18, FMMUs 3, sync managers 6; so its objects begin at 0x65, each has 8
+    silent = 1
+
+    def begin(self) -> None:
+        self.esc.sii_silent = {0x7E: self.silent}
+
+
+class EL1008Worn(EL1008Nack):
+    """It never acknowledges that read."""
+
+    silent = 1000
+
+
+class NoMark(Quick):
+    """An EEPROM of 128 kibibits without the end mark: behind its categories stand zeros, and a read takes no time."""
+
+    product = 0x013B
+
+    def begin(self) -> None:
+        super().begin()
+        self.esc.eeprom = self.esc.eeprom.rstrip(b"\xff").ljust(128 * 128, b"\0")
+        self.esc.sii_time = 0.0
+
+
+class ClosedAssignment(Quick):
+    """It aborts each transfer of its assignment of outputs: not in this state of the device [AL "Abort SDO transfer"]."""
+
+    product, closed = 0x013C, {OUTPUTS_ASSIGNED: BAD_STATE}
+
+
+class NoAssignment(Quick):
+    """It has no object that says which outputs it exchanges: all of them."""
+
+    product, lacking = 0x013D, (OUTPUTS_ASSIGNED,)
+    said = {"is_parted": True}
+
+
+class NumberedGap(Quick):
+    """The gap behind its outputs has a subindex, which a table's gap hasn't, as its mapping has both: 0x00000108."""
+
+    product = 0x013E
+    outputs = (Pdo(0x1600, ((0x7000, 1, 8), (0, 1, 8))),)
+    variables = Quick.variables[1:]
+    said = {"outputs": ()}
+
+
+class EmptySlot(Quick):
+    """Its assignment of outputs has two slots, of which the second is empty: 0."""
+
+    product, delivered = 0x0140, ((0x1600, 0), (0x1A00,))

@@ -10,12 +10,15 @@ import struct
 from collections.abc import Callable, Iterator
 
 from bus import sdo
-from coe import INPUTS_ASSIGNED, OUTPUTS_ASSIGNED
+from coe import INPUTS_ASSIGNED, NO_OBJECT, OUTPUTS_ASSIGNED
+from eeprom import END
 from esc import APWR, BRD, BWR, FPRD, FPWR, LRD, LRW, LWR, NO_LRW
 from plant import POLLS
 from slave import OP, PREOP, SAFEOP, Slave, bytes_of, places_of
 
 LOGICAL = 0x10000
+# the most words of categories that a scan reads; the words before them
+MOST_WORDS, HEAD = 4096, (0x08, 0x0A, 0x0C, 0x0E, 0x18, 0x1A, 0x1C)
 
 
 class Refusal(Exception):
@@ -23,7 +26,11 @@ class Refusal(Exception):
 
 
 class Aborted(Refusal):
-    """A transfer was aborted."""
+    """A transfer was aborted, with this code."""
+
+    def __init__(self, place: int, code: int) -> None:
+        super().__init__(f"30 Abort {place} {code}")
+        self.code = code
 
 
 def size_of(kind: type[Slave], way: int) -> int:
@@ -197,7 +204,8 @@ class Master:
         for pdo in (*kind.chosen(0), *kind.chosen(1)):
             self.upload(place, pdo.index, 0, 1, len(pdo.entries))
             for sub, (index, low, bits) in enumerate(pdo.entries, 1):
-                self.upload(place, pdo.index, sub, 4, index << 16 | low << 8 | bits)
+                # a table's gap has no subindex
+                self.upload(place, pdo.index, sub, 4, index << 16 | (low if index else 0) << 8 | bits)
         for way, index in enumerate((OUTPUTS_ASSIGNED, INPUTS_ASSIGNED)):
             if (kind.outputs, kind.inputs)[way]:
                 self.assign(place, index, [pdo.index for pdo in kind.chosen(way)], kind.fixed)
@@ -249,7 +257,7 @@ class Master:
         if struct.unpack_from("<HB", came, 9) != (index, sub):
             raise Refusal(f"9 BadMailbox {place}")
         if came[8] == 0x80:
-            raise Aborted(f"30 Abort {place} {struct.unpack_from('<I', came, 12)[0]}")
+            raise Aborted(place, struct.unpack_from("<I", came, 12)[0])
         return came[8:16]
 
     # ---- process data
@@ -306,7 +314,7 @@ class Scanner(Master):
         try:
             self.open()
             for place, _ in self.each():
-                if None in [self.sii(place, address) for address in (0x08, 0x0A, 0x0C, 0x0E, 0x18, 0x1A, 0x1C)]:
+                if None in [self.words(place, address) for address in HEAD] or not self.is_whole(place):
                     raise Refusal(f"27 Identity {place} 0 0 0")
             self.do(BWR, 0, 0x0500, b"\1", None)
             for place, kind in self.each():
@@ -318,16 +326,42 @@ class Scanner(Master):
             self.bus.physical(BWR, 0, 0x0120, b"\x11\0")
         return "found"
 
+    def words(self, place: int, address: int) -> int | None:
+        """Two words of the SII. A read that ends with an error is tried once more, behind a clearing of the error [SOEM]."""
+        found = self.sii(place, address)
+        if found is None:
+            self.do(BWR, 0, 0x0502, bytes(2), None)
+            found = self.sii(place, address)
+        return found
+
+    def is_whole(self, place: int) -> bool:
+        """Whether the categories can be read up to the end mark, or the SII ends before them, at one kibibit [AL "SII", word 0x3E]."""
+        found: list[int] = []
+        header = 0
+        while len(found) < MOST_WORDS:
+            both = self.words(place, 0x40 + len(found))
+            if both is None:
+                return not found and (self.words(place, 0x3E) or 1) & 0xFFFF == 0
+            found += [both & 0xFFFF, both >> 16]
+            while header + 1 < len(found) and found[header] != END:
+                header += 2 + found[header + 1]
+            if header < len(found) and found[header] == END:
+                return True
+        return False
+
     def ask(self, place: int, kind: type[Slave]) -> None:
-        """A device in PREOP is asked. It may lack an assignment; what it names must be there."""
+        """A device in PREOP is asked. It may lack the object of an assignment; what an assignment names must be there."""
         self.open_mailbox(place, kind)
         self.climb(place, PREOP)
         for index in (OUTPUTS_ASSIGNED, INPUTS_ASSIGNED):
             try:
                 count = self.value(place, index, 0, 4)
-            except Aborted:
+            except Aborted as why:
+                if why.code != NO_OBJECT:
+                    raise
                 continue
             for slot in range(1, count + 1):
                 pdo = self.value(place, index, slot, 4)
-                for sub in range(1, self.value(place, pdo, 0, 4) + 1):
+                # an empty slot has no mapping
+                for sub in range(1, self.value(place, pdo, 0, 4) + 1 if pdo else 1):
                     self.value(place, pdo, sub, 4)

@@ -41,13 +41,16 @@ SEVERAL: dict[str, list[type[Slave]]] = {
 # the end of each row with a table of today's keys
 EXPECTED: dict[str, str] = {
     # the acknowledge bit is copied, so INIT is never seen
-    "EK1100": "31 TooSlow 2", "EK1122": "31 TooSlow 2", "EL1008": "31 TooSlow 2",
+    **dict.fromkeys(("EK1100", "EK1122", "EL1008", "EL1008Nack", "EL1008Worn"), "31 TooSlow 2"),
     "EL1008Masked": "up",
     # a table can't say the register of the pins; in RAM nothing lights up
     "EL2008": "25 OutsideRam 0",
     "EL2008Elsewhere": "up, but pins 00, wanted c5; no manager has the outputs at 0x0f00; no FMMU has the outputs at 0x0f00",
     # polls of a wait rest, and so last 9 s
     **dict.fromkeys(("EL3102", "EL3104", "EL3104Compact", "EL3104Filtered", "Seconds", "LateSdo", "LateDownload", "NeverDone"), "up"),
+    # as EL1008 and EL2008
+    **dict.fromkeys(("EL1252", "Longer", "BehindWide"), "31 TooSlow 2"),
+    **dict.fromkeys(("EL2809", "PartedBothWays", "BehindRepeats"), "25 OutsideRam 0"),
     # outputs don't come before OP: the device gives up after 5 s (0x001B), or at once
     **dict.fromkeys(("EL4002", "EL4002Quick", "EL4002Impatient", "EL6001", "Drive"), "29 AlError 0 27"),
     "EL6224": "13 BadValue 1 0", "SpareObject": "13 BadValue 1 0", "Repeats": "20 EntryTwice 0", "AlwaysRepeats": "20 EntryTwice 0",
@@ -85,6 +88,8 @@ EXPECTED: dict[str, str] = {
     "DriveQuick": "up, but unmet `expect drivequick_status & 0x1000 == 0x1000`; unmet `expect drivequick_position 4711`; "
                   "drivequick: position 0, wanted 4711; unmet `expect drivequick_position -300`; drivequick: position 0, wanted -300",
     "DriveByClocks": "29 AlError 0 48",
+    # 264 is 0x108, a gap with a subindex; 0x08000022: not in this state of the device
+    "NumberedGap": "38 Mapping 0 5632 2 264", "NoMark": "up", "EmptySlot": "up", "ClosedAssignment": "30 Abort 0 134217762", "NoAssignment": "30 Abort 0 100794368",
     "digital": "25 OutsideRam 2", "branches": "25 OutsideRam 1", "machine": "25 OutsideRam 2", "cell": "25 OutsideRam 2",
     "odd": "up", "many": "up",
     "drives": "31 TooSlow 2", "parameters": "9 BadMailbox 2",
@@ -111,6 +116,10 @@ EXPECTED_HARDWARE: dict[str, str] = {
     "NoSii": "27 Identity 0 0 0 0",
     # outputs are fed by LRW
     "UnsaidLrw": "28 Counter 48",
+    # a gap with a subindex can't be said
+    "NumberedGap": "38 Mapping 0 5632 2 264",
+    # its assignment can't be written: not now (0x08000022), or there is none (0x06020000)
+    "ClosedAssignment": "30 Abort 0 134217762", "NoAssignment": "30 Abort 0 100794368",
     # 65 parameters
     "TooManyParameters": "13 BadValue 1 0",
     # there are no distributed clocks
@@ -122,8 +131,9 @@ EXPECTED_HARDWARE: dict[str, str] = {
 # What `--explain` says of a start-up that fails, in phrases between `;`: what the device said, what the table wants, and a likely cause.
 # First by a table of today's keys.
 EXPLAINED: dict[str, str] = {
-    **dict.fromkeys(("EK1100", "EK1122", "EL1008", "drives"), "without firmware copies the acknowledgement"),
+    **dict.fromkeys(("EK1100", "EK1122", "EL1008", "EL1008Nack", "EL1008Worn", "drives"), "without firmware copies the acknowledgement"),
     **dict.fromkeys(("EL4002", "EL4002Quick", "EL4002Impatient", "EL6001", "Drive"), "0x001B;outputs before OP"),
+    **dict.fromkeys(("EL1252", "Longer", "BehindWide"), "without firmware copies the acknowledgement"),
     "FourthManager": "0x001D", "ReadsSii": "0x0050", "DriveByClocks": "0x0030", "Bare": "the FMMUs of all slaves;working counter",
     **dict.fromkeys(("SiiOfPdi", "SiiFailed", "NoSii"), "its SII read zeros;firmware or a former master held it"),
     "NewerRevision": "vendor 0x000005A5, product 0x00000112, revision 0x00000004",
@@ -163,18 +173,20 @@ SHOWN = "by the mapping shown"
 UNSAID = "unsaid"
 # The row doesn't come up by its own table either. The scan, or the start-up behind it, ends as that does.
 NEVER = "that no table brings up"
-GROUPS = (UP, COMPLETED, SHOWN, UNSAID, NEVER)
+# Its own table brings it up, and a scan can't read all that it needs of it, so it prints none.
+UNREAD = "that a scan can't read"
+GROUPS = (UP, COMPLETED, SHOWN, UNSAID, NEVER, UNREAD)
 
 
 @dataclass(frozen=True)
 class Scanned:
     """The group of a row, how its scan ends, how its start-up ends by the table that was found, and with what words the table and the
-    terminal begin to say what is left out."""
+    terminal begin to say what is left out; several, if they say several things."""
 
     group: str = UP
     alone: str | None = "up"
     scan: str = "found"
-    unsaid: str | None = None
+    unsaid: str | tuple[str, ...] | None = None
 
 
 # rows that aren't of the first group
@@ -189,12 +201,23 @@ SCANNED: dict[str, Scanned] = {
     "EL6224": Scanned(UNSAID, "29 AlError 0 30", "46 Unsaid 0", "inputs of it are left out"),
     # Managers 4 and 5 are left out, so 2 and 3 are set. The firmware finds its own unset [the same; 0x001D, output configuration].
     "FourthManager": Scanned(UNSAID, "29 AlError 0 29", "46 Unsaid 0", "its sync managers are left out"),
+    # A gap with a subindex is left out, and so the PDO: as for EL6224, but of outputs (0x001D).
+    "NumberedGap": Scanned(UNSAID, "29 AlError 0 29", "46 Unsaid 0", "outputs of it are left out"),
     # the PDO that is left out isn't assigned as delivered
     "SpareObject": Scanned(UNSAID, "up", "46 Unsaid 0", "inputs of it are left out"),
     # The PDO that repeats an entry is left out of the assignment. By CoE the device takes that; without a mailbox its firmware finds two
     # bytes too few [the same as for EL6224; 0x001D].
     "Repeats": Scanned(UNSAID, "up", "46 Unsaid 0", "its PDO 0x1601 is left out"),
     "AlwaysRepeats": Scanned(UNSAID, "29 AlError 0 29", "46 Unsaid 0", "its PDO 0x1601 is left out"),
+    # a table has one manager for each direction
+    "EL1252": Scanned(UNSAID, "up", "46 Unsaid 0", "inputs behind a second sync manager are left out"),
+    "EL2809": Scanned(UNSAID, "up", "46 Unsaid 0", "outputs behind a second sync manager are left out"),
+    "PartedBothWays": Scanned(UNSAID, "up", "46 Unsaid 0", ("outputs behind a second sync manager are left out",
+                                                            "inputs behind a second sync manager are left out")),
+    "Longer": Scanned(UNSAID, "up", "46 Unsaid 0", "its inputs may lie elsewhere"),
+    # a byte of a table lies where it lies in the device: so what stands behind an object that is left out is left out too
+    "BehindRepeats": Scanned(UNSAID, "up", "46 Unsaid 0", "its PDO 0x1601 is left out, and those behind it where the assignment can't be written"),
+    "BehindWide": Scanned(UNSAID, "up", "46 Unsaid 0", "inputs of it are left out"),
     # a scan asks a mailbox, as a start-up does: no reply comes, or not in 1000 polls
     **dict.fromkeys(("Deaf", "DeafBehind", "EndlessEmergencies", "EndlessBehind", "EndlessOthers", "TooManyEmergencies", "Erring"),
                     Scanned(NEVER, None, "31 TooSlow")),
@@ -203,6 +226,11 @@ SCANNED: dict[str, Scanned] = {
     "NoSii": Scanned(NEVER, None, "27 Identity 0 0 0 0"),
     # it is found, and then falls back, or wants distributed clocks
     **{name: Scanned(NEVER, EXPECTED_HARDWARE[name]) for name in ("Falls", "DriveByClocks")},
+    # a word of its categories can't be read, or they don't end
+    **dict.fromkeys(("EL1008Worn", "NoMark"), Scanned(UNREAD, None, "27 Identity 0 0 0 0")),
+    "ClosedAssignment": Scanned(NEVER, None, EXPECTED_HARDWARE["ClosedAssignment"]),
+    # it is found by its SII, and its assignment can't be written
+    "NoAssignment": Scanned(UNSAID, EXPECTED_HARDWARE["NoAssignment"], "46 Unsaid 0", "it takes CoE and has no object 0x1C12 for its outputs"),
 }
 
 

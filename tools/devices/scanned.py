@@ -34,9 +34,10 @@ BESIDE = {"name", "slow", "emergency", "fmmus"}
 LOOKED = r"the last frame looked into the mailbox of slave \d+: the upload of 0x1[0-9A-F]{3}:0x[0-9A-F]{2}, .+"
 EXPLAINED = {
     "9": rf"slave \d+ answered a request with something that is no reply to it; {LOOKED}\n",
-    "27": r"slave (\d+) has an error where its SII is read; the last frame asked slave \1 for word 0x0008 of its SII; its EEPROM may be blank.+\n",
+    "27": r"slave (\d+) has an error where its SII is read; the last frame asked slave \1 for word 0x(?:0008|007E|103E) of its SII; its EEPROM may be blank.+\n",
     "28": r"frame \d+ came back with another working counter than it must have; the last frame wrote into the mailbox of slave \d+: the upload of "
           r".+; its mailbox took no request, as if it was full\n",
+    "30": rf"slave \d+ aborted an SDO transfer, code 0x08000022: .+; {LOOKED}; it doesn't have this object.+\n",
     "31": f"a wait wasn't over after 1000 polls, or a slave took too many frames; {LOOKED}; it sent no reply to the request\n",
 }
 # what may go wrong with programs
@@ -140,7 +141,7 @@ def as_found(kind: type[Slave], is_completed: bool) -> type[Slave]:
     for way, pdos in enumerate((kind.outputs, kind.inputs)):
         known = {pdo.index: Pdo(pdo.index, mapped.get(pdo.index, pdo.entries)) for pdo in pdos}
         indices = delivered[way] if delivered else known
-        chosen.append(tuple(known[index] for index in indices if index not in kind.said.get("left_out", ())))
+        chosen.append(tuple(known[index] for index in indices if index in known and index not in kind.said.get("left_out", ())))
     return type(kind.__name__, (kind,), {
         "variables": trial.variables, "script": trial.script, "init": trial.init, "own_init": (), "told_revision": None, "any_revision": False,
         "told_out_start": None, "told_lrw": False, "assigns": tuple(tuple(pdo.index for pdo in way) for way in chosen),
@@ -187,13 +188,15 @@ def wrong_slaves(text, kinds):
 def unlike_unsaid(text, refusal, explained, what):
     """What is wrong with a comment on a slave, and with the explanation of the refusal: both must say what is left out. Nothing else has
     a comment."""
-    comments = re.findall(r'^# (.*)\n\[\[slave\]\]\nname = "(\w+)"$', text, re.M)
+    comments = re.findall(r'^((?:# .*\n)+)\[\[slave\]\]\nname = "(\w+)"$', text, re.M)
     if not what:
         return [f"commented on by {comments}"] * bool(comments) + [f"explained by {explained!r}"] * bool(explained)
+    things = (what,) if isinstance(what, str) else what
     place = int(refusal.rpartition(" ")[2]) if re.fullmatch(r"46 Unsaid \d+", refusal) else -1
     wanted = [slave["name"] for slave in tomllib.loads(text)["slave"]][place:][:1]
-    found = [] if [name for _, name in comments] == wanted and comments[0][0].startswith(what) else [f"commented on by {comments}"]
-    is_explained = re.fullmatch(rf"slave {place} `\w+`: {what}.*\nTo do: .+\n", explained)
+    said = "".join(f"# {thing}.*\n" for thing in things)
+    found = [] if [name for _, name in comments] == wanted and re.fullmatch(said, comments[0][0]) else [f"commented on by {comments}"]
+    is_explained = re.fullmatch("".join(rf"slave {place} `\w+`: {thing}.*\n" for thing in things) + r"To do: .+\n", explained)
     return found + ([] if is_explained else [f"explained by {explained!r}"])
 
 
@@ -311,7 +314,7 @@ def complete(program, row, text):
 
 def unsaid(kinds):
     """How a scan of these devices ends if a table can't say all of one."""
-    places = [place for place, kind in enumerate(kinds) if kind.said.keys() & {"outputs", "inputs", "out_area", "in_area", "left_out"}]
+    places = [place for place, kind in enumerate(kinds) if kind.said.keys() & {"outputs", "inputs", "out_area", "in_area", "left_out", "is_parted"}]
     return f"46 Unsaid {places[0]}" if places else "found"
 
 

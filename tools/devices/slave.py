@@ -6,7 +6,7 @@ what devices with firmware commonly do, as ETG.1000.6 leaves it to them.
 from __future__ import annotations
 
 import struct
-from dataclasses import dataclass
+from dataclasses import dataclass, replace
 
 import eeprom
 from esc import AL_CODE, AL_STATUS, ET1100, FMMUS, MANAGERS, PINS, SII_CONTROL, SII_ERROR, SII_OWNER, STATION, Chip, Esc
@@ -230,6 +230,23 @@ class Slave:
         code = self.esc.word(AL_CODE)
         state = NAMES.get(self.state, f"state {self.state}") + (f"+ERROR {code:04x}" if self.has_error else "")
         return {"state": state, "pins": self.pins().hex()}
+
+
+class Parted(Slave):
+    """A terminal whose SII lists more objects behind its own, by direction: the area that has them, its length there, and the objects."""
+
+    said = {"is_parted": True}
+    more: dict[str, tuple[Area, int, tuple[Pdo, ...]]] = {}
+
+    def image(self) -> eeprom.Image:
+        image = super().image()
+        for way, (area, size, pdos) in self.more.items():
+            use = eeprom.PROCESS_OUT if way == "outputs" else eeprom.PROCESS_IN
+            rows = dict(enumerate(image.managers)) | {area.number: (area.start, size, area.control, 1, use)}
+            managers = tuple(rows.get(number, (0, 0, 0, 0, eeprom.UNUSED)) for number in range(max(rows) + 1))
+            listed = getattr(image, way) + tuple((pdo.index, area.number, pdo.entries) for pdo in pdos)
+            image = replace(image, managers=managers, **{way: listed})
+        return image
 
 
 class Smart(Slave):

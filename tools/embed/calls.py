@@ -58,6 +58,15 @@ def rests_grow(real):
     must(rests == {0: 4 * 9 + 2 * 9, 0.001: 4 * 90 + 2 * 24, 0.01: 4}, "the rests between polls grow")
 
 
+def is_set(m, name, value):
+    """Whether a variable takes a value."""
+    try:
+        m[name] = value
+    except ValueError:
+        return False
+    return True
+
+
 def runs_as_real(table):
     """The same machine of a table for hardware, in which one variable is signed."""
     real = "hardware = true\n" + table.replace('dir = "out"\nbits = 16\n', 'dir = "out"\nbits = 16\nsigned = true\n')
@@ -65,7 +74,11 @@ def runs_as_real(table):
     rests_grow(real)
     with ecat.Master(real) as m, ecat.Segment(real) as slaves:
         m.bring_up(slaves)
-        m["force_wanted"] = 65531
+        m["force_wanted"] = -5
+        for value, holds in ((-0x8000, True), (-0x8001, False), (0x10000, False)):
+            must(is_set(m, "force_wanted", value) == holds, f"{value} is a value of 16 bits with a sign")
+        must(not is_set(m, "valves", -1), "a variable without a sign has no negative values")
+        m["force_wanted"] = -5
         must(m.cycle(slaves).taken and m["force_wanted"] == 65531 and m.signed("force_wanted") == -5, "a signed variable has a sign")
         must([v.name for v in m.variables() if v.is_signed] == ["force_wanted"], "and no other has")
 

@@ -12,16 +12,16 @@ use Rattle.ec_scan.specs.Lines.{IsFresh}
 use Rattle.ec_scan.specs.declared.shown.Shown.{Shown}
 use Rattle.ec_found.specs.declared.found.Found.{Found}
 use Rattle.ec_found.specs.Differing.{agrees}
-use Rattle.cmd_scan.specs.Scans.{AreFound, IsScanOf, IsScanRefusal, RunsAgainst, RunsScan, against_end, unsaid_end}
+use Rattle.cmd_scan.specs.Scans.{AreFound, IsScanOf, IsScanRefusal, IsUnscanned, RunsAgainst, RunsScan, against_end, unsaid_end}
 
 -- nothing is printed
 pub none_printed : (r : Result Unit Refusal) (x : Refusal) (known : OutputState) → IsErrAnd r (λ e. e ≡ x) → IsScanRefusal x → RunsScan known known r
 none_printed (Ok done) x known is h = absurd is
 none_printed (Err e) x known is h = inl (e, refl, subst IsScanRefusal (sym is) h, refl)
 
-pub none_compared : (c : Contents) (r : Result Unit Refusal) (x : Refusal) (known : OutputState) → IsErrAnd r (λ e. e ≡ x) → IsScanRefusal x → RunsAgainst c known known r
+pub none_compared : (c : Contents) (r : Result Unit Refusal) (x : Refusal) (known : OutputState) → IsErrAnd r (λ e. e ≡ x) → IsUnscanned x → RunsAgainst c known known r
 none_compared c (Ok done) x known is h = absurd is
-none_compared c (Err e) x known is h = inl (e, refl, subst IsScanRefusal (sym is) h, refl)
+none_compared c (Err e) x known is h = inl (e, refl, subst IsUnscanned (sym is) h, refl)
 
 -- a text is cut off
 pub cut_off : (r : Result Unit Refusal) (x : Refusal) (text : List ℕ) (fs : List Found) (old new : OutputState) → IsErrAnd r (λ e. e ≡ x) → x ≡ Output → IsScanOf text fs → IsCutOff old new text

@@ -1,6 +1,6 @@
 -- What `ecat scan` prints, and how it ends (this project's profile). What sockets and cards carried isn't known here: that a scan sends nothing
 -- but its own frames is kept by its `Line`.
-use Rattle.std.specs.Prelude.{◌≡◌, ◌⊎◌, ℕ, ◌==◌, List, Bool, Option, None, Some, is_some, count_by, position, max, if◌then◌else◌, Result, Ok, Err}
+use Rattle.std.specs.Prelude.{◌≡◌, ◌⊎◌, ℕ, ◌==◌, not, List, Bool, Option, None, Some, count_by, length, position, max, if◌then◌else◌, Result, Ok, Err}
 use Rattle.std.specs.List.{AllZip}
 use Rattle.ec_console.specs.declared.refusal.Refusal.{Refusal}
 use Rattle.ec_console.specs.declared.refusal.Refusal.TheVariants.{Memory, Table, Link, Start, Socket, Output, Unmet, Unsaid}
@@ -31,21 +31,29 @@ ended_by_slave None = Ok tt
 ended_by_slave (Some slave) = Err (Unsaid slave)
 
 abbrev pub first_unsaid : List Found → Option ℕ
-first_unsaid fs = position (λ (f : Found). is_some f.unsaid) fs
+first_unsaid fs = position (λ (f : Found). not (length f.unsaid == 0)) fs
 
 abbrev pub unsaid_end : List Found → Result Unit Refusal
 unsaid_end fs = ended_by_slave (first_unsaid fs)
 
+-- why no slaves are found
+abbrev pub IsUnscanned : Refusal → Type 0
+IsUnscanned Memory = Unit {0}
+IsUnscanned (Start error) = Unit {0}
+IsUnscanned (Socket trouble) = Unit {0}
+IsUnscanned _ = ⊥
+
+-- why the table of those that are found isn't printed: there is no plan, or its text reads as another slave
+abbrev pub IsUnprinted : Refusal → Type 0
+IsUnprinted Memory = Unit {0}
+IsUnprinted (Table error) = Unit {0}
+IsUnprinted (Link error) = Unit {0}
+IsUnprinted (Unsaid slave) = Unit {0}
+IsUnprinted _ = ⊥
+
 -- why a scan prints nothing
 abbrev pub IsScanRefusal : Refusal → Type 0
-IsScanRefusal Memory = Unit {0}
-IsScanRefusal (Table error) = Unit {0}
-IsScanRefusal (Link error) = Unit {0}
-IsScanRefusal (Start error) = Unit {0}
-IsScanRefusal (Socket trouble) = Unit {0}
--- the text reads as another slave
-IsScanRefusal (Unsaid slave) = Unit {0}
-IsScanRefusal _ = ⊥
+IsScanRefusal refusal = IsUnscanned refusal ⊎ IsUnprinted refusal
 
 -- Nothing is printed, for such a reason; or a text is cut off; or all of a text is printed, and the end says whether a table can say all
 -- of the slaves.
@@ -55,8 +63,8 @@ RunsScan old new ended =
     ⊎ (((text : List ℕ) × IsScanText text × (ended ≡ Err Output) × IsCutOff old new text)
     ⊎ ((text : List ℕ) × (fs : List Found) × IsScanOf text fs × (ended ≡ unsaid_end fs) × IsPrinted old new text))
 
--- So with a table. The text is free; the end says whether the table has the slaves that were found and no others, and how many lines there
--- are if it hasn't.
+-- So with a table, and no other is made. The text is free; the end says whether the table has the slaves that were found and no others, and
+-- how many lines there are if it hasn't.
 abbrev pub is_line_end : ℕ → Bool
 is_line_end letter = letter == 10
 
@@ -68,6 +76,6 @@ against_end agreed text = if agreed then Ok tt else Err (Unmet (max (line_ends t
 
 abbrev pub RunsAgainst : Contents → (old new : OutputState) → Result Unit Refusal → Type 0
 RunsAgainst c old new ended =
-    ((refusal : Refusal) × (ended ≡ Err refusal) × IsScanRefusal refusal × (new ≡ old))
+    ((refusal : Refusal) × (ended ≡ Err refusal) × IsUnscanned refusal × (new ≡ old))
     ⊎ (((text : List ℕ) × (ended ≡ Err Output) × IsCutOff old new text)
     ⊎ ((shown : List Shown) × (fs : List Found) × (text : List ℕ) × AreFound shown fs × (ended ≡ against_end (agrees c fs) text) × IsPrinted old new text))

@@ -1,7 +1,7 @@
 //! `ecat scan` over a socket or a card.
 ghost use Rattle.std.specs.Prelude.{◌≡◌, [], IfErr, IfOk, is_some};
 ghost use Rattle.std.specs.String.{string_bytes};
-ghost use Rattle.cmd_scan.specs.Scans.{AreFound, IsScanOf, IsScanRefusal, RunsAgainst, RunsScan, against_end, first_unsaid, line_ends, unsaid_end};
+ghost use Rattle.cmd_scan.specs.Scans.{AreFound, IsScanOf, IsUnprinted, IsUnscanned, RunsAgainst, RunsScan, against_end, first_unsaid, line_ends, unsaid_end};
 ghost use Rattle.ec_console.specs.Explaining.{IsLeft};
 ghost use Rattle.ec_scan.specs.Lines.{IsFresh};
 ghost use Rattle.ec_wire.specs.Taps.{IsTraceOf};
@@ -39,9 +39,10 @@ pub struct ScanOptions<'a> {
 ///
 /// # Errors
 ///
-/// `Refusal::Socket` if there is no such socket. `Refusal::Start` if the scan failed, as a start-up would. `Refusal::Link` if the slaves
-/// have no plan together. `Refusal::Unsaid` if a table can't say all of a slave; the table is printed then. `Refusal::Memory` or
-/// `Refusal::Output` if memory or a write was refused.
+/// `Refusal::Socket` if there is no such socket. `Refusal::Start` if the scan failed, as a start-up would. `Refusal::Link` or
+/// `Refusal::Table` if the slaves have no plan together. `Refusal::Unsaid` if a table can't say all of a slave, and the table is printed
+/// then; or if its text reads as another slave, and nothing is printed. `Refusal::Memory` or `Refusal::Output` if memory or a write was
+/// refused.
 pub fn run_scan<H: AllocGlobal + Net + Files + Clock, W: Write + Drop>(
     rt: &H,
     options: ScanOptions<'_>,
@@ -65,7 +66,8 @@ pub fn run_scan<H: AllocGlobal + Net + Files + Clock, W: Write + Drop>(
 ///
 /// # Errors
 ///
-/// Those of [`run_scan`], and `Refusal::Unmet` with the number of lines if anything differs.
+/// `Refusal::Socket`, `Refusal::Start`, `Refusal::Memory` or `Refusal::Output`, as those of [`run_scan`], and `Refusal::Unmet` with the
+/// number of lines if anything differs.
 pub fn run_against<H: AllocGlobal + Net + Files + Clock, W: Write + Drop>(
     rt: &H,
     options: ScanOptions<'_>,
@@ -93,7 +95,7 @@ fn scan_at<H: AllocGlobal + Net + Files + Clock>(
     behind: &mut Explanation,
 ) -> Result<Seen, Refusal>
     ensures found { IfOk result (λ seen. AreFound seen.shown.items seen.found.items) }
-    ensures refused { IfErr result IsScanRefusal }
+    ensures refused { IfErr result IsUnscanned }
     ensures still_open { is_some capture.new ≡ is_some capture.old }
     ensures explains { IsLeft behind.old behind.new }
 {
@@ -123,7 +125,7 @@ fn scan_tapped<H: AllocGlobal + Files + Clock, W: Wire + Drop>(
     requires sent { IsFresh (W.state wire).sent }
     requires received { IsTraceOf (W.state wire).received [] }
     ensures found { IfOk result (λ seen. AreFound seen.shown.items seen.found.items) }
-    ensures refused { IfErr result IsScanRefusal }
+    ensures refused { IfErr result IsUnscanned }
     ensures still_open { is_some capture.new ≡ is_some capture.old }
     ensures explains { IsLeft behind.old behind.new }
 {
@@ -150,7 +152,7 @@ fn scan_over<H: AllocGlobal + Clock, W: Wire + Drop>(
 ) -> (Result<Seen, Refusal>, W)
     requires { IsFresh (W.state wire).sent }
     ensures found { IfOk result.0 (λ seen. AreFound seen.shown.items seen.found.items) }
-    ensures refused { IfErr result.0 IsScanRefusal }
+    ensures refused { IfErr result.0 IsUnscanned }
     ensures explains { IsLeft behind.old behind.new }
 {
     let mut line = Line::new(wire, Resting::new(rt));
@@ -178,7 +180,7 @@ fn explained(
     last: (Option<Action>, Option<Trouble>),
     behind: &mut Explanation,
 ) -> Result<Vec<Shown>, Refusal>
-    ensures refused { IfErr result IsScanRefusal }
+    ensures refused { IfErr result IsUnscanned }
     ensures explains { IsLeft behind.old behind.new }
 {
     match shown {
@@ -199,9 +201,9 @@ fn explained(
 
 /// The slaves of a segment, by what each of them shows.
 fn seen_of(alloc: Global, shown: Result<Vec<Shown>, Refusal>) -> Result<Seen, Refusal>
-    requires { IfErr shown IsScanRefusal }
+    requires { IfErr shown IsUnscanned }
     ensures found { IfOk result (λ seen. AreFound seen.shown.items seen.found.items) }
-    ensures refused { IfErr result IsScanRefusal }
+    ensures refused { IfErr result IsUnscanned }
 {
     let shown = shown?;
     let found = found_all(alloc, shown.as_slice())?;
@@ -212,7 +214,7 @@ fn seen_of(alloc: Global, shown: Result<Vec<Shown>, Refusal>) -> Result<Seen, Re
 fn text_of(alloc: Global, seen: &Seen, behind: &mut Explanation) -> Result<String, Refusal>
     requires { AreFound seen.now.shown.items seen.now.found.items }
     ensures text { IfOk result (λ text. IsScanOf (string_bytes text) seen.now.found.items) }
-    ensures refused { IfErr result IsScanRefusal }
+    ensures refused { IfErr result IsUnprinted }
     ensures explains { IsLeft behind.old behind.new }
 {
     match printed(alloc, seen.shown.as_slice(), seen.found.as_slice()) {
@@ -227,7 +229,7 @@ fn text_of(alloc: Global, seen: &Seen, behind: &mut Explanation) -> Result<Strin
 
 /// The refusal of slaves whose table isn't printed.
 fn refusal_of(error: FoundError) -> Refusal
-    ensures { IsScanRefusal result }
+    ensures { IsUnprinted result }
 {
     match error {
         FoundError::Memory => Refusal::Memory,
@@ -251,7 +253,7 @@ fn unsaid_end(found: &[Found]) -> Result<(), Refusal>
 fn first_unsaid(found: &[Found]) -> Option<usize>
     ensures { result ≡ first_unsaid found.now }
 {
-    found.iter().position(|one| one.unsaid.is_some())
+    found.iter().position(|one| !one.unsaid.is_empty())
 }
 
 /// How a scan ends that was compared with a table, by whether nothing differs and by what was printed.

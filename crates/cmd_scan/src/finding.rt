@@ -8,14 +8,14 @@ use std::alloc::{AllocError, Global};
 
 /// The slaves of a segment: what each of them shows, and what it is.
 #[derive(Drop)]
-pub struct Seen {
+pub(crate) struct Seen {
     pub shown: Vec<Shown>,
     pub found: Vec<Found>,
 }
 
 /// What slaves are, by what each of them shows. The error says that memory ran out.
 #[tactic(auto, using(crate::proofs::FoundLemmas::found_more))]
-pub fn found_all(alloc: Global, shown: &[Shown]) -> Result<Vec<Found>, AllocError>
+pub(crate) fn found_all(alloc: Global, shown: &[Shown]) -> Result<Vec<Found>, AllocError>
     ensures { IfOk result (λ found. AreFound shown.now found.items) }
 {
     let mut found = Vec::new(alloc);

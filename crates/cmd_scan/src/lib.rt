@@ -7,5 +7,4 @@ mod tap;
 mod why;
 
 pub use crate::command::{ScanOptions, run_against, run_scan};
-pub use crate::finding::{Seen, found_all};
 pub use crate::tap::open_scan_capture;

@@ -1,11 +1,10 @@
 //! Why a scan failed, for people: at which slave, what was asked, what that means, and what to do.
 use crate::finding::Seen;
-use ec_al::StatusCode;
-use ec_coe::{AbortCode, INPUT_ASSIGNMENT, OUTPUT_ASSIGNMENT};
 use ec_console::{FileNames, Refusal, remarks_text};
 use ec_diagnostic::Counted;
+use ec_explain_start::{Request, abort_meaning, status_meaning};
 use ec_found::table_text;
-use ec_start::{Action, SdoRequest, SiiAccess, StartError};
+use ec_start::{Action, SiiAccess, StartError};
 use ec_wire::Trouble;
 use std::alloc::{AllocError, Global};
 use std::fmt;
@@ -24,10 +23,6 @@ pub(crate) struct ScanFault {
 #[derive(Clone, Copy)]
 struct Asked(Action);
 
-/// The request for an upload. It is printed as the object.
-#[derive(Clone, Copy)]
-struct Upload(SdoRequest);
-
 /// The likely cause of a failure, as the end of a sentence about it, and what to do. The cause is empty if nothing suggests one.
 #[derive(Clone, Copy)]
 struct Cause {
@@ -41,8 +36,8 @@ const MANY: Cause = Cause {
 };
 
 const UNREADABLE: Cause = Cause {
-    words: "; its EEPROM may be blank, or isn't loaded yet",
-    advice: "switch the slave off and on, and scan again",
+    words: "; its EEPROM may be blank, worn out, not loaded yet or without an end mark",
+    advice: "switch the slave off and on, and scan again; if that doesn't help, write the device's type by hand",
 };
 
 const NO_REPLY: Cause = Cause {
@@ -71,7 +66,7 @@ const REFUSED: Cause = Cause {
 };
 
 const ABORTED: Cause = Cause {
-    words: "; its assignment names an object that it doesn't have, or doesn't let read now",
+    words: "; it doesn't have this object, or doesn't let it be read now",
     advice: BY_HAND,
 };
 
@@ -107,9 +102,6 @@ const BY_HAND: &str =
 /// What stands before the remarks on a table that isn't printed.
 const NO_PLAN: &str =
     "The slaves that were found have no plan together, so their table isn't printed. At fault in it is:\n";
-
-/// The words for a code that the standard doesn't have.
-const OTHER_CODE: &str = "a code that the standard or the vendor explains";
 
 /// What a scan failed by, as the text behind the line of its refusal. The error says that memory ran out.
 pub(crate) fn fault_text(alloc: Global, fault: ScanFault) -> Result<String, AllocError> {
@@ -252,11 +244,11 @@ impl fmt::Display for Asked {
                 write!(f, "asked whether slave {slave} is in {state}")
             }
             Action::SendRequest { slave, request, .. } => {
-                let request = Upload(request);
+                let request = Request(request);
                 write!(f, "wrote into the mailbox of slave {slave}: {request}")
             }
             Action::AwaitReply { slave, request, .. } => {
-                let request = Upload(request);
+                let request = Request(request);
                 write!(f, "looked into the mailbox of slave {slave}: {request}")
             }
             action => f.write_str(asked_of_all(action)),
@@ -288,39 +280,5 @@ fn asked_of_all(action: Action) -> &'static str {
         Action::AssignSii(_) => "took the SII of each slave from its device",
         Action::ClearSiiError => "cleared the SII errors of all slaves",
         _ => "was another",
-    }
-}
-
-impl fmt::Display for Upload {
-    fn fmt<W: fmt::Write>(&self, f: &mut fmt::Formatter<W>) -> fmt::Result {
-        let SdoRequest {
-            index,
-            subindex,
-            ..
-        } = self.0;
-        let is_assignment = index == OUTPUT_ASSIGNMENT || index == INPUT_ASSIGNMENT;
-        let what = match (is_assignment, subindex) {
-            (false, 0) => "how many entries the PDO has",
-            (false, _) => "an entry of the PDO",
-            (true, 0) => "how many PDOs are assigned",
-            (true, _) => "a PDO that is assigned",
-        };
-        write!(f, "the upload of 0x{index:04X}:0x{subindex:02X}, {what}")
-    }
-}
-
-/// What a slave means by an AL status code.
-fn status_meaning(code: u16) -> &'static str {
-    match StatusCode::text(code) {
-        Some(text) => text.meaning,
-        None => OTHER_CODE,
-    }
-}
-
-/// What a slave means by the abort code of an SDO transfer.
-fn abort_meaning(code: u32) -> &'static str {
-    match AbortCode::text(code) {
-        Some(text) => text.meaning,
-        None => OTHER_CODE,
     }
 }

@@ -6,8 +6,8 @@ Exit status:
   0  done: the result, or the help that you asked for, is on standard output
   2  the command line isn't valid; standard error says why
   3  refused: standard error has a line `ecat: NUMBER NAME VALUES`
-  4  a fault of input or output, in the same form
-  5  an `expect` of `ecat sim` or `ecat master` didn't hold, in the same form
+  4  a fault of input, output or a socket, in the same form
+  5  an `expect` or `--strict` line is unmet, or `scan --against` finds a difference; in the same form
 
 `ecat COMMAND -h` prints an example. `ecat COMMAND --help` lists the refusals, and what to do.";
 
@@ -239,8 +239,8 @@ Lines of a script:
 Lines that print something only if what they expect doesn't hold:
   expect NAME VALUE           an input variable of the image is VALUE; for an output variable, the
                               slaves publish VALUE in its linked bits
-  expect NAME == VALUE        its value is VALUE; also with !=, <, <=, >, >=. A value has no sign,
-                              and one that the variable can't hold is never met
+  expect NAME == VALUE        its value is VALUE; also with !=, <, <=, >, >=. Values of a `signed`
+                              variable have a sign; one that it can't hold is never met
   expect NAME & MASK == VALUE its bits in MASK are VALUE; also with !=
   expect NAME LOW..HIGH       its value lies between LOW and HIGH, or is one of them
   expect taken, expect untaken
@@ -410,7 +410,8 @@ Lines of `--live`:
                   may be indented; blocks may stand in blocks, up to 8 deep. A block has at most
                   1000 lines, and runs without those that are bad
   expect NAME VALUE
-                  the slaves publish VALUE in the linked bits of this output variable
+                  the slaves publish VALUE in the linked bits of this output variable; also with
+                  ==, !=, <, <=, >, >=, & MASK and LOW..HIGH, as in `ecat sim`
   expect state S STATE CODE
                   slave S is in INIT, PREOP, SAFEOP or OP, with this AL status code in four hex
                   digits, which may be left out
@@ -538,39 +539,44 @@ Exit status:
 /// The text below the arguments of `ecat scan` in its short help.
 pub(crate) const SCAN_EXAMPLE: &str = "\
 Example: a link table of the slaves on a network card
-  tools/with_card eth0 crates/ecat/out/ecat scan >line.toml
+  tools/with_card eth0 crates/ecat/out/ecat scan --descriptor 3 >line.toml
 
 `ecat scan --help` says what is printed, and what is refused.";
 
 /// The text below them in its long help.
 pub(crate) const SCAN_LINES: &str = "\
-It reads the SII of each slave, and by CoE the PDOs that the slave exchanges and their mapping. Where
-the two differ, CoE decides. It prints a link table with `hardware = true`: a type for each different
-device, the slaves in order, and a variable and a link for each entry. Names are made of those in the
-SII. `ecat plan` takes the table, and `ecat master` brings the slaves up by it.
+First it asks all slaves for INIT: a machine that runs stops. Then it reads the SII of each slave, and
+by CoE the PDOs that the slave exchanges and their mapping. Where the two differ, CoE decides. It
+prints a link table with `hardware = true`: a type for each different device, the slaves in order, and
+a variable and a link for each entry. Names are made of those in the SII. `ecat plan` takes the table,
+and `ecat master` brings the slaves up by it.
 
 It downloads nothing, moves no process data, and asks no slave for more than PREOP. At the end all are
-asked for INIT. Frames go where those of `ecat master` go.
+asked for INIT again. Frames go where those of `ecat master` go.
 
 With `--against` it prints a line for each thing that differs from TABLE:
   slave S NAME: WHAT
-                  device (vendor and product), revision, serial, or a PDO that is missing, has other
-                  entries or isn't in TABLE; a revision that TABLE leaves out and a serial number of
-                  0 differ from none
+                  device (vendor and product), revision, serial, a PDO that is missing, has other
+                  entries or isn't in TABLE, or what no table can say of the slave; a revision that
+                  TABLE leaves out and a serial number of 0 differ from none
   slave S NAME: missing
   slave S: not in the table: VENDOR PRODUCT
+PDOs are those that the slave exchanges once it was started up by TABLE; of a slave with more than 16
+in a direction, those that it exchanges now. Mailboxes, where process data begin, sync managers,
+`lrw`, `firmware` and `fixed` aren't compared, but what no table can say of them is printed, and
+counts. A slave whose mapping `init` writes differs before its start-up.
 
 Exit status:
   0  the table is printed, or nothing differs
   2  the command line isn't valid: correct it as standard error says
   3  refused, and standard error says `ecat: NUMBER NAME VALUES`:
-     46 Unsaid SLAVE    a table can't say all of this slave. The table is printed, and a comment
-                        above the slave says what it leaves out
+     46 Unsaid SLAVE    a table can't say all of some slaves, of which this is the first. The table is
+                        printed, and comments above each slave say what it leaves out
       9 BadMailbox SLAVE
                         its mailbox held a reply that doesn't fit the request
      26 Count SEEN      more than 64 slaves are there
      27 Identity SLAVE ...
-                        its SII can't be read
+                        its SII can't be read, or has no end mark
      28 Counter FRAME   this frame came back with another working counter: a slave doesn't answer
      29 AlError SLAVE CODE
                         it refused PREOP with this AL status code

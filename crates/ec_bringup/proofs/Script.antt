@@ -3,6 +3,8 @@
 pub mod Walks
 -- how many polls each wait takes
 pub mod Polls
+-- each wait stands right behind what it waits for
+pub mod Chained
 -- from one frame to the next, and from the first to the last
 pub mod IsPath
 -- the checks of the AL state machine pass at a slave that was set as the plan says

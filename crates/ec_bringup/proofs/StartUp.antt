@@ -5,6 +5,8 @@ pub mod BeginningLaw
 pub mod Keeps
 -- every run of a world that starts up
 pub mod StartUpLaw
+-- the registers of a slave that holds the plan read it
+pub mod RegistersRead
 -- an undisturbed start-up ends Ready
 pub mod ComesUpLaw
 -- and takes few frames

@@ -30,7 +30,7 @@ pub use Rattle.ec_coe.proofs.ReplyLetters.{message_or_none}
 pub use Rattle.ec_coe.proofs.Names.{replies_fit, replies_alone, uploads_expedited}
 pub use Rattle.ec_coe.proofs.ReadBack.{reads-as-message, command-read, reads_back, service-read, index-read, subindex-read, value-read, length-message}
 pub use Rattle.ec_coe.proofs.AssignmentWrites.{outs-own, ins-own}
-pub use Rattle.ec_slave.specs.Interface.{SlaveKind, SyncManagerSettings, emptied_buffer, SyncManager, buffer_length, State, Init, PreOp, SafeOp, Op, Al, SlaveState, manager_at, station_of, Assignment, all_assigned, Buffer, no_manager, is_running, with_manager, Entry, Pdo, Mailbox, SdoValue, assigned, indices, byte_value, word_value, output_assignment, input_assignment, has_some, pdo_at, Datagram, no_settings, Device, IsDatagram, Payload, IsFrame, with_datagrams, bare_payload, served, state_number, al_flag, sii_error, sii_busy, size_number, message_read, reply_of, Reply, Downloaded, Uploaded, Aborted, Unexpected, is_stored, empty_manager, Command, Bwr, adp_of, ado_of, requesting, role_of, adp_after, is_reading, is_writing, Window, touches, physical_after, is_configured, window_of, slave_met, datagram_met, control_word, Wrote, set_by, OnlyWrites, ValueSize, AbortCode, Message, Service, Request as RequestService, Response, Other as OtherService, SdoCommand as Sdo, DownloadRequest, DownloadResponse, UploadRequest, UploadResponse, Abort as AbortCommand, message_bytes, message_in, command_of, command_number, reply_by, response_in, abort_in, Dictionary, Answer, answer_by, download_answer, value_of, FmmuSettings, device_of, takes_writes, manager_bytes, fmmu_bytes, Checks, answer, requested_by, acknowledges, size_of, Sii, read_command, checks_of, no_fmmu, area_settings, outputs_control, inputs_control, IsEntry, IsMailbox, ArePdos, first_output_index, first_input_index, bits_assigned, contains, distinct, fmmu_of, fmmus, Identity, SiiImage, app_put, Got, power_on, input_put, output_got, output_taken, faulted, view_next, may_app_put, may_app_get, app_got, locked_empty, passes, inputs_put, outputs_taken, is_mailbox, is_master_written, is_master_read, is_manager, mailbox_check, process_check, Fprd, Fpwr, meets, span, is_enabled, sync_manager_message_in as mailbox_message_in, padded, may_write, One, Two, Three, Four, message_length, service_of, service_number, KeepsBesideMessages, IsAnswered, dictionary_of, is_preop, has_mailbox, takes_reply, is_served, request_for, request_in, reply_counter, answer_to, bytes_to, message_served, is_init, read_finished, request_decided, governor, covers, in_first_buffer, writes_under, reply_bytes, Apwr, with_adp, Met as Meeting, upload_answer, reply_to, identity_object, entry_number, long_value, assignment_values, pdo_values, device_name_object, face_values_of, send_room, value_or_abort, value_at, takes_value, is_open, with_value, with_outs, with_ins, settings_written, with_answer, byte_at, updated, ram_start, Fprw, is_joining, byte_read, may_read_byte, may_write_byte, some_byte_read, some_byte_written, is_written, OnlyReads, ram_end, may_read, ring_read, visible, governs, reads_under, is_ungoverned, is_read_by, physical_manager, physical_managers, ram_byte, Passed, is_buffered, ring_written, Brd, is_written_by, physical_value, zeros_published, StatusCode, InvalidMailboxConfiguration, InvalidOutputConfiguration, InvalidInputConfiguration, code_number, decided, answered as slave_answered, unlocked_empty, managers_entered, with_al, settings_of, byte_for, commanded, addressed, address_written, IsPdo, IsWithinLimits, plain_kind, device_identity, Hardware, fmmu_count, has_firmware, manager_number, manager_place, other_name, shown_fmmu, shown_manager, is_missing, keeps, awaiting, outputs_awaited, is_awaiting, al_decided, has_outputs, copied}
+pub use Rattle.ec_slave.specs.Interface.{SlaveKind, SyncManagerSettings, emptied_buffer, SyncManager, buffer_length, State, Init, PreOp, SafeOp, Op, Al, SlaveState, manager_at, station_of, Assignment, all_assigned, Buffer, no_manager, is_running, with_manager, Entry, Pdo, Mailbox, SdoValue, assigned, indices, byte_value, word_value, output_assignment, input_assignment, has_some, pdo_at, Datagram, no_settings, Device, IsDatagram, Payload, IsFrame, with_datagrams, bare_payload, served, state_number, al_flag, sii_error, sii_busy, size_number, message_read, reply_of, Reply, Downloaded, Uploaded, Aborted, Unexpected, is_stored, configured, Command, Bwr, adp_of, ado_of, requesting, role_of, adp_after, is_reading, is_writing, Window, touches, physical_after, is_configured, window_of, slave_met, datagram_met, control_word, Wrote, set_by, OnlyWrites, ValueSize, AbortCode, Message, Service, Request as RequestService, Response, Other as OtherService, SdoCommand as Sdo, DownloadRequest, DownloadResponse, UploadRequest, UploadResponse, Abort as AbortCommand, message_bytes, message_in, command_of, command_number, reply_by, response_in, abort_in, Dictionary, Answer, answer_by, download_answer, value_of, FmmuSettings, device_of, takes_writes, manager_bytes, fmmu_bytes, Checks, answer, requested_by, acknowledges, size_of, Sii, read_command, checks_of, no_fmmu, area_settings, outputs_control, inputs_control, IsEntry, IsMailbox, ArePdos, first_output_index, first_input_index, bits_assigned, contains, distinct, fmmu_of, fmmus, Identity, SiiImage, app_put, Got, power_on, input_put, output_got, output_taken, faulted, view_next, may_app_put, may_app_get, app_got, outputs_lost, passes, inputs_put, outputs_taken, is_mailbox, is_master_written, is_master_read, is_manager, mailbox_check, process_check, Fprd, Fpwr, meets, span, is_enabled, sync_manager_message_in as mailbox_message_in, padded, may_write, One, Two, Three, Four, message_length, service_of, service_number, KeepsBesideMessages, IsAnswered, dictionary_of, is_preop, has_mailbox, takes_reply, is_served, request_for, request_in, reply_counter, answer_to, bytes_to, message_served, is_init, read_finished, request_decided, governor, covers, in_first_buffer, writes_under, reply_bytes, Apwr, with_adp, Met as Meeting, upload_answer, reply_to, identity_object, entry_number, long_value, assignment_values, pdo_values, device_name_object, face_values_of, send_room, value_or_abort, value_at, takes_value, is_open, with_value, with_outs, with_ins, settings_written, with_answer, byte_at, updated, ram_start, Fprw, is_joining, byte_read, may_read_byte, may_write_byte, some_byte_read, some_byte_written, is_written, OnlyReads, ram_end, may_read, ring_read, visible, governs, reads_under, is_ungoverned, is_read_by, physical_manager, physical_managers, ram_byte, Passed, is_buffered, ring_written, Brd, is_written_by, physical_value, zeros_published, StatusCode, InvalidMailboxConfiguration, InvalidOutputConfiguration, InvalidInputConfiguration, code_number, decided, answered as slave_answered, unlocked_empty, managers_entered, with_al, settings_of, byte_for, commanded, addressed, address_written, IsPdo, IsWithinLimits, plain_kind, device_identity, Hardware, fmmu_count, has_firmware, manager_number, manager_place, other_name, shown_fmmu, shown_manager, is_missing, keeps, awaiting, outputs_awaited, is_awaiting, al_decided, has_outputs, copied}
 pub use Rattle.ec_al.specs.Transitions.{requested_number}
 pub use Rattle.ec_device.specs.Hardware.{AreNumbered}
 pub use Rattle.ec_slave.specs.HardwareLaws.{naming_manager}
@@ -92,7 +92,7 @@ pub use Rattle.ec_start.specs.Running.{is_op}
 pub use Rattle.ec_start.proofs.LawLemmas.{taken_same}
 pub use Rattle.ec_start.proofs.Startable.{startable}
 pub use Rattle.ec_bringup.specs.Instants.{claim_of, Leads, AreAhead, AllMet, IsUnderWay, Instant, Between, UnderWay, Adrift, Over, IsReady, Starts, LaterLaw, TakeLaw, SlaveLaw, IsBetween, IsOver, AreNamed, IsFeeding, Feeding, FedLaw}
-pub use Rattle.ec_bringup.specs.Interface.{Rise, Stays, Climbs, Claim, Talk, Config, Stage, Before, Called, Down, Up, answered, IsOfKind, unviewed, HoldsZeros, IsConfigured, IsAssigned, Claims, IsSilent, Talks, IsInInit, IsIn, StaysIn, Rises, IsUpAt, AreClear, IsDownAt, Reached, IsGone, HadFault, Stands, IsSpelled, Rising, turned, turns, rising, Applied, Rests, Reads, Writes, AreApplied, TurnsTo, AppliedStays, Turns, no_claim, claimed, answered_by, talked_over, asked_all, prepared, is_idle, is_beginning, BeginningLaw, fresh, config_after, after, IsLow, frame_at, all_passed, all_met, ArePlans, AreDevices, IsUpAndWorks, IsOnItsWay, IsBroughtTo, BringUpRests, RunsOut, BringUpTurns, IsWriting, Arrives, IsOther, MayRepeat, Met, slot_claimed, MayEnd, plan_at, IsReachable, CanReach, end_of, IsIdentity, unplanned, slave_of, AppliedUpLaw, ComesUpLaw, CompiledUpLaw, Works, SlaveHealth, Working, Faulted, WasReset, IsStepUp, IsAsked, CompiledPlansLaw, IsNumbered, IsOffered, AreOffered, IsAssignable, IsComplete, carries, Fits, FrameLaw, with_passed, with_start, with_slave, Carried, Starting, no_slave, slave_at, trouble_at, kind_at, AreSlaves, IsDevice, with_begun, AreStartable, Happens, Sends, Passes, Loses, Returns, Strays, Closes, Serves, Puts, Gets, Faults, Resets, Runs, Stops, Steps, Begins, IsTrue, AreTrue, AgainLaw, IsFaulted, IsTop, IsGenuine, SwitchedOnLaw, DevicesLaw, RingLaw, IsUp, StaysStanding, CanAct, CanClimb, IsClimbing, climbing, HasAll, IsSent, IsClear, Untouched, ReadsOn, IsBroadcast, ShowsInit, if_mine, FitsMine, RoundLaw, IsFaultedAt, no_plan, with_sent, with_empty, with_lost, ends_of, HoldsAll, HasFault, StartUpLaw, IsNew, no_identity, switched_on as bringup_switched_on, AreIdentities, IsOfType, AreGenuine, AreOfTypes, IdentitiesLaw, TypedSlavesLaw, SlavesOfLaw, Falls, Lowered, fresh_lowered, named_of, IsAtInit, IsEarly, IsNamed, IsLowered, IsBelow, HasFallen, IsLoweredAt, ShowsLow, planned, span_of_feed, IsAway, IsFeedOf, AreFeedsOf, IsFeedAt, with_outputs_written, IsLeft, sum_up, IsCountedIn, Within, Outside, IsPredicted, ArePredicted, PartsCanBeFed, PartsArePredicted, FeedLaw, PlainUpLaw, ArePlansWith, AllAgree, FramesAreFew, steps_slow, steps_left, until_init, until_all, until_clean, until_reply, until_heard, frames_each, polls_more, frames_behind, frames_up, sizes_of, sizes_in, IsDictionary, done_by, AreDone, Came, IsShown, ShowsBy, ShowsAll, mappings, ParametersAgree, takes_messages, greeting_of, left_to_say, raw_verdict}
+pub use Rattle.ec_bringup.specs.Interface.{Rise, Stays, Climbs, Claim, Talk, Config, Stage, Before, Called, Down, Up, answered, IsOfKind, unviewed, HoldsZeros, IsConfigured, IsAssigned, Claims, IsSilent, Talks, IsInInit, IsIn, StaysIn, Rises, IsUpAt, AreClear, IsDownAt, Reached, IsGone, HadFault, Stands, IsOfType, Rising, turned, turns, rising, Applied, Rests, Reads, Writes, AreApplied, TurnsTo, AppliedStays, Turns, no_claim, claimed, answered_by, talked_over, asked_all, prepared, is_idle, is_beginning, BeginningLaw, fresh, config_after, after, IsLow, frame_at, all_passed, all_met, ArePlans, AreDevices, IsUpAndWorks, IsOnItsWay, IsBroughtTo, BringUpRests, RunsOut, BringUpTurns, IsWriting, Arrives, IsOther, MayRepeat, Met, slot_claimed, MayEnd, plan_at, IsReachable, CanReach, end_of, IsIdentity, unplanned, slave_of, AppliedUpLaw, ComesUpLaw, CompiledUpLaw, Works, SlaveHealth, Working, Faulted, WasReset, IsStepUp, IsAsked, CompiledPlansLaw, IsNumbered, IsOffered, AreOffered, IsAssignable, IsComplete, carries, Fits, FrameLaw, with_passed, with_start, with_slave, Carried, Starting, no_slave, slave_at, trouble_at, kind_at, AreSlaves, IsDevice, with_begun, AreStartable, Happens, Sends, Passes, Loses, Returns, Strays, Closes, Serves, Puts, Gets, Faults, Resets, Runs, Stops, Steps, Begins, IsTrue, AreTrue, AgainLaw, IsFaulted, IsTop, IsGenuine, SwitchedOnLaw, DevicesLaw, RingLaw, IsUp, StaysStanding, CanAct, CanClimb, IsClimbing, climbing, HasAll, IsSent, IsClear, Untouched, ReadsOn, IsBroadcast, ShowsInit, if_mine, FitsMine, RoundLaw, IsFaultedAt, no_plan, with_sent, with_empty, with_lost, ends_of, HoldsAll, HasFault, StartUpLaw, IsNew, no_identity, switched_on as bringup_switched_on, AreIdentities, AreGenuine, AreOfTypes, IdentitiesLaw, TypedSlavesLaw, SlavesOfLaw, Falls, Lowered, fresh_lowered, named_of, IsAtInit, IsEarly, IsNamed, IsLowered, IsBelow, HasFallen, IsLoweredAt, ShowsLow, planned, span_of_feed, IsAway, IsFeedOf, AreFeedsOf, IsFeedAt, with_outputs_written, IsLeft, sum_up, IsCountedIn, Within, Outside, IsPredicted, ArePredicted, PartsCanBeFed, PartsArePredicted, FeedLaw, PlainUpLaw, ArePlansWith, AllAgree, FramesAreFew, steps_slow, steps_left, until_init, until_all, until_clean, until_reply, until_heard, frames_each, polls_more, frames_behind, frames_up, sizes_of, sizes_in, IsDictionary, done_by, AreDone, Came, IsShown, ShowsBy, ShowsAll, mappings, ParametersAgree, takes_messages, greeting_of, left_to_say, raw_verdict}
 pub use Rattle.ec_bringup.specs.Stages.{up_after, FitsOne}
 pub use Rattle.ec_bringup.specs.Keeping.{StandingLaw, GoneLaw, ForOthersLaw}
 pub use Rattle.ec_bringup.specs.Turned.{IsBroughtUp, StandsUpLaw}

@@ -13,7 +13,7 @@ use Rattle.ec_start.specs.Scripts.{is_hardware, script}
 use Rattle.ec_start.specs.declared.phase.Phase.TheVariants.{Idle, Ready}
 use Rattle.ec_start.specs.Running.{begun}
 use Rattle.ec_frame.specs.Datagram.{IsDatagram}
-use Rattle.ec_bringup.specs.Undisturbed.{Rising, frame_at, turns, plan_at, slave_of, ArePlans, ArePlansWith, AreDevices}
+use Rattle.ec_bringup.specs.Undisturbed.{Rising, frame_at, turns, plan_at, slave_of, IsOfType, ArePlans, ArePlansWith, AreDevices}
 use Rattle.ec_device.specs.Types.{SlaveKind}
 use Rattle.ec_bringup.specs.Starting.{Starting}
 use Rattle.ec_bringup.specs.Fed.{AreFeedsOf}
@@ -77,12 +77,10 @@ CompiledUpLaw =
 
 -- ---- whatever happened before
 
--- its SII has its own identity, and that is the type's, the serial number aside
+-- its SII has its own identity, and that is one of the type
 pub record IsTrue (kind : SlaveKind) (s : SlaveState) : Type 0 where
   pub image : s.sii.image.identity ≡ s.identity
-  pub vendor : s.identity.vendor ≡ kind.device.vendor
-  pub product : s.identity.product ≡ kind.device.product
-  pub revision : s.identity.revision ≡ kind.device.revision
+  pub own : IsOfType kind s.identity
 
 pub record AreTrue (w : Starting) : Type 0 where
   pub each : (i : ℕ) → i < length w.start.plan → IsTrue (plan_at w.start.plan i).kind (slave_of w.slaves i)

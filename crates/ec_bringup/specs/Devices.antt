@@ -1,6 +1,5 @@
 -- Devices stay devices, whatever happens to them. So a start-up can be begun at any time over slaves that were devices once.
 use Rattle.std.specs.Prelude.{ℕ, ◌<◌, ◌≤◌, ◌≡◌, List, length, get_or, set, None, unwrap_or}
-use Rattle.ec_device.specs.declared.slave_type.Device.{Device}
 use Rattle.ec_device.specs.declared.slave_type.Identity.{Identity}
 use Rattle.ec_device.specs.Types.{SlaveKind}
 use Rattle.ec_frame.specs.Datagram.{Datagram}
@@ -17,14 +16,8 @@ use Rattle.ec_link.specs.Plan.{plan_of}
 use Rattle.ec_link.specs.declared.settings.SlavePlan.{SlavePlan}
 use Rattle.ec_bringup.specs.SwitchedOn.{no_identity, switched_on, AreIdentities, AreSlavesOf}
 use Rattle.ec_bringup.specs.Standing.{IsOfKind}
-use Rattle.ec_bringup.specs.Undisturbed.{plan_at, slave_of, AreDevices}
+use Rattle.ec_bringup.specs.Undisturbed.{plan_at, slave_of, IsOfType, AreDevices}
 use Rattle.ec_bringup.specs.ComesUp.{IsTrue}
-
--- the identity of a device of a type: the serial number is free
-pub record IsOfType (type : Device) (i : Identity) : Type 0 where
-  pub vendor : i.vendor ≡ type.vendor
-  pub product : i.product ≡ type.product
-  pub revision : i.revision ≡ type.revision
 
 -- A device of a type, in any state, whose own identity is the type's too: a reset makes its SII of that again.
 pub record IsGenuine (kind : SlaveKind) (s : SlaveState) : Type 0 where
@@ -33,7 +26,7 @@ pub record IsGenuine (kind : SlaveKind) (s : SlaveState) : Type 0 where
 
 -- A device of a type that was just switched on is one.
 abbrev pub SwitchedOnLaw : Type 0
-SwitchedOnLaw = (kind : SlaveKind) (identity : Identity) → IsOfType kind.device identity → IsGenuine kind (power_on kind identity)
+SwitchedOnLaw = (kind : SlaveKind) (identity : Identity) → IsOfType kind identity → IsGenuine kind (power_on kind identity)
 
 -- whatever happens to it
 pub record StaysGenuine (kind : SlaveKind) (s : SlaveState) : Type 0 where
@@ -77,7 +70,7 @@ RingLaw = (ps : List SlavePlan) (ss : List SlaveState) → AreGenuine ps ss → 
 
 -- each identity is that of a device of its slave's type
 abbrev pub AreOfTypes : Contents → List Identity → Type 0
-AreOfTypes t identities = (k : ℕ) → k < length t.slaves → IsOfType (plan_at (plan_of t).slaves k).kind.device (get_or identities k no_identity)
+AreOfTypes t identities = (k : ℕ) → k < length t.slaves → IsOfType (plan_at (plan_of t).slaves k).kind (get_or identities k no_identity)
 
 -- The identities that a table states are such, if `compile` accepts the table.
 abbrev pub IdentitiesLaw : Type 0

@@ -5,7 +5,7 @@ pub use Rattle.ec_bringup.specs.ComesUp.{AllAgree, FramesAreFew, IsUpAndWorks, I
 pub use Rattle.ec_bringup.specs.Complete.{IsReachable, CanReach, IsIdentity, IsNumbered, IsOffered, AreOffered, IsAssignable, IsComplete, carries}
 pub use Rattle.ec_bringup.specs.Counting.{steps_slow, steps_left, until_init, until_all, until_clean, until_reply, until_heard, frames_each, polls_more, frames_behind, frames_up}
 pub use Rattle.ec_bringup.specs.Dictionaries.{sizes_of, sizes_in, IsDictionary, done_by, AreDone, Came, IsShown, ShowsBy, ShowsAll, mappings, ParametersAgree}
-pub use Rattle.ec_bringup.specs.Devices.{IsGenuine, SwitchedOnLaw, DevicesLaw, RingLaw, IsOfType, AreGenuine, AreOfTypes, IdentitiesLaw, TypedSlavesLaw, SlavesOfLaw}
+pub use Rattle.ec_bringup.specs.Devices.{IsGenuine, SwitchedOnLaw, DevicesLaw, RingLaw, AreGenuine, AreOfTypes, IdentitiesLaw, TypedSlavesLaw, SlavesOfLaw}
 pub use Rattle.ec_bringup.specs.Fed.{planned, span_of_feed, IsAway, IsFeedOf, AreFeedsOf, IsFeedAt, with_outputs_written, IsLeft, sum_up, IsCountedIn, Within, Outside, IsPredicted, ArePredicted, PartsCanBeFed, PartsArePredicted}
 pub use Rattle.ec_bringup.specs.Frames.{ShowsLow, IsWriting, Arrives, IsOther, MayRepeat, Met, MayEnd, Untouched, ReadsOn, IsBroadcast, ShowsInit}
 pub use Rattle.ec_bringup.specs.Keeping.{FeedLaw, FrameLaw, StaysStanding}
@@ -14,4 +14,4 @@ pub use Rattle.ec_bringup.specs.Stages.{Rise, Falls, Stays, Climbs, Claim, Talk,
 pub use Rattle.ec_bringup.specs.Standing.{takes_messages, greeting_of, left_to_say, raw_verdict, IsOfKind, HasFallen, IsLoweredAt, unviewed, HoldsZeros, IsConfigured, IsAssigned, Claims, IsSilent, Talks, IsInInit, IsIn, StaysIn, Rises, IsUpAt, AreClear, IsDownAt, Reached, IsGone, HadFault, Stands, IsAsked, IsFaulted, IsTop, HasAll, IsSent, IsFaultedAt}
 pub use Rattle.ec_bringup.specs.Starting.{Carried, Starting, no_slave, slave_at, trouble_at, kind_at, AreSlaves, no_plan}
 pub use Rattle.ec_bringup.specs.SwitchedOn.{no_identity, switched_on, AreIdentities, AreSlavesOf}
-pub use Rattle.ec_bringup.specs.Undisturbed.{IsSpelled, Rising, turned, turns, frame_at, all_passed, all_met, ArePlans, ArePlansWith, AreDevices, plan_at, unplanned, slave_of, IsDevice, RoundLaw, IsRound}
+pub use Rattle.ec_bringup.specs.Undisturbed.{IsOfType, Rising, turned, turns, frame_at, all_passed, all_met, ArePlans, ArePlansWith, AreDevices, plan_at, unplanned, slave_of, IsDevice, RoundLaw, IsRound}

@@ -16,6 +16,8 @@ pub mod Counting
 pub mod Starting
 pub mod Fed
 pub mod Runs
+-- What the registers of the slaves read at Ready.
+pub mod Registers
 pub mod ComesUp
 -- Devices stay devices of their types.
 pub mod Devices

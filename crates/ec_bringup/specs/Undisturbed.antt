@@ -1,6 +1,7 @@
 -- A start-up that nothing disturbs: each frame passes all slaves in order, each slave serves once, and the frame comes back.
-use Rattle.std.specs.Prelude.{ℕ, zero, suc, ◌<◌, ◌≤◌, ◌≡◌, List, [], ◌∷◌, length, map, get_or, is_some}
-use Rattle.ec_device.specs.declared.slave_type.Device.{Device}
+use Rattle.std.specs.Prelude.{ℕ, zero, suc, ◌<◌, ◌≤◌, ◌≡◌, List, [], ◌∷◌, length, map, get_or, false, is_some}
+use Rattle.ec_device.specs.declared.slave_type.Identity.{Identity}
+use Rattle.ec_device.specs.Hardware.{takes_any_revision}
 use Rattle.ec_device.specs.Types.{SlaveKind, plain_kind, device_identity}
 use Rattle.ec_frame.specs.Datagram.{Datagram, IsDatagram}
 use Rattle.ec_slave.specs.State.{SlaveState, power_on}
@@ -21,18 +22,20 @@ use Rattle.ec_bringup.specs.Complete.{IsComplete}
 
 -- ---- which slaves
 
--- The image of the SII spells the type's vendor, product and revision; the serial number is free.
-pub record IsSpelled (identity : Device) (s : SlaveState) : Type 0 where
-  pub vendor : s.sii.image.identity.vendor ≡ identity.vendor
-  pub product : s.sii.image.identity.product ≡ identity.product
-  pub revision : s.sii.image.identity.revision ≡ identity.revision
+-- The identity of a device of a type (ETG.1000.6, "Slave information interface area"): vendor and product are the type's, and so is
+-- the revision, but any will do where the type names none. The serial number is free.
+pub record IsOfType (kind : SlaveKind) (i : Identity) : Type 0 where
+  pub vendor : i.vendor ≡ kind.device.vendor
+  pub product : i.product ≡ kind.device.product
+  pub revision : takes_any_revision kind.hardware ≡ false → i.revision ≡ kind.device.revision
 
 -- A device of a type, in any state: nothing is asked of its registers, its managers, its messages, its AL state, an error, a
 -- request or a read that waits. `IsOfKind` says that in INIT no manager is locked, and that an assignment which can't be written is
 -- that of power-on: every event of a slave keeps both.
 pub record IsDevice (kind : SlaveKind) (s : SlaveState) : Type 0 where
   pub slave : IsOfKind kind s
-  pub spelled : IsSpelled kind.device s
+  -- the image of its SII spells such an identity
+  pub spelled : IsOfType kind s.sii.image.identity
 
 -- ---- one frame
 

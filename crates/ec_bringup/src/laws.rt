@@ -3,6 +3,7 @@
 ghost use Rattle.ec_bringup.specs.Keeping.{StandingLaw, GoneLaw, ForOthersLaw, FeedLaw, FrameLaw};
 ghost use Rattle.ec_bringup.specs.Fed.{PartsArePredicted, PartsCanBeFed};
 ghost use Rattle.ec_bringup.specs.Runs.{BeginningLaw, StartUpLaw};
+ghost use Rattle.ec_bringup.specs.Registers.{HeldIsRead, ReadyIsRead};
 ghost use Rattle.ec_bringup.specs.Undisturbed.{RoundLaw};
 ghost use Rattle.ec_bringup.specs.Devices.{DevicesLaw, IdentitiesLaw, RingLaw, SlavesOfLaw, SwitchedOnLaw, TypedSlavesLaw};
 ghost use Rattle.ec_bringup.specs.Applied.{AppliedUpLaw};
@@ -12,6 +13,14 @@ ghost use Rattle.ec_bringup.specs.ComesUp.{AgainLaw, ComesUpLaw, CompiledPlansLa
 /// reset since the first frame of that start-up was sent.
 pub fn start_up()
     ensures { StartUpLaw }
+{}
+
+/// The registers of a slave that holds the plan read it: its station address, its FMMUs, and each sync manager at 0x0800 + 8 * n for
+/// the number n that devices of its type give it, with the addresses that they have (ETG.1000.4, "Sync manager", "FMMU"). At Ready
+/// each slave's do, or it was reset since the first frame of that start-up was sent.
+pub fn ready_is_read()
+    ensures held { HeldIsRead }
+    ensures ready { ReadyIsRead }
 {}
 
 /// A start-up is at its beginning when it begins, and no more once a frame was sent or answered, or it was given up.

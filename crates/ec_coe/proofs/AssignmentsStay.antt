@@ -1,5 +1,5 @@
 -- Assignments stay lists of the type's own PDOs, without a double and of few enough bits.
-use Rattle.std.proofs.Common.{ℕ, ◌-◌, ◌<◌, ◌≤◌, ◌≡◌, ◌==◌, ◌&&◌, ◌||◌, Bool, true, false, Option, Some, None, refl, sym, ◌∙◌, ap, subst, inl, inr, arith, List, [], length, set, take, get_or, is_some, length-set, get_or-set_same, get_or-set_other}
+use Rattle.std.proofs.Common.{ℕ, ◌-◌, ◌<◌, ◌≤◌, ◌≡◌, ◌==◌, ◌&&◌, ◌||◌, Bool, true, false, Some, None, refl, sym, ◌∙◌, ap, subst, inl, inr, arith, List, [], length, set, take, get_or, is_some, length-set, get_or-set_same, get_or-set_other}
 use Rattle.std.proofs.lemmas.Bool.{cases_Bool, cases_eq, eqb-true, leb-true}
 use Rattle.ec_bits.proofs.AnyLaws.{if_true, if_false}
 use Rattle.ec_device.specs.declared.slave_type.Pdo.{Pdo}

@@ -1,8 +1,8 @@
 -- What is set aside, what a reply without a size says, and what becomes of parameters and of fixed assignments.
-use Rattle.std.proofs.Common.{ℕ, ◌+◌, ◌*◌, ◌/◌, ◌%◌, ◌<◌, ◌≡◌, ◌≢◌, ◌==◌, ◌||◌, ◌⊎◌, not, Bool, true, false, if◌then◌else◌, refl, sym, ◌∙◌, ap, inl, inr, arith, List, [], ◌∷◌, ◌++◌, length, map, set, Option, Some, None, is_some, Result, Ok, Err, get_or-set_same}
+use Rattle.std.proofs.Common.{ℕ, ◌+◌, ◌*◌, ◌/◌, ◌<◌, ◌≡◌, ◌==◌, ◌||◌, ◌⊎◌, not, Bool, true, false, if◌then◌else◌, refl, sym, ◌∙◌, ap, inl, inr, arith, List, [], ◌∷◌, ◌++◌, length, map, set, Option, Some, None, is_some, Result, Ok, Err, get_or-set_same}
 use Rattle.std.specs.List.{list_any}
 use Rattle.std.specs.Option.{option_or}
-use Rattle.std.proofs.lemmas.Bool.{cases_Bool, eq-eqb, or_from, or_left, or_right, and_left, and_right}
+use Rattle.std.proofs.lemmas.Bool.{eq-eqb, or_from, or_left, or_right, and_left, and_right}
 use Rattle.std.proofs.lemmas.Option.{unwrap_or-slice_get}
 use Rattle.ec_bits.proofs.AnyLaws.{if_true, if_false}
 use Rattle.ec_device.specs.Hardware.{is_fixed}
@@ -21,15 +21,14 @@ use Rattle.ec_coe.specs.declared.message.SdoCommand.{SdoCommand}
 use Rattle.ec_coe.specs.declared.message.SdoCommand.TheVariants.{DownloadRequest, DownloadResponse, UploadRequest, UploadResponse, Abort, Other as OtherCommand}
 use Rattle.ec_coe.specs.declared.message.Message.{Message}
 use Rattle.ec_coe.specs.Messages.{message_bytes, service_number, size_number}
-use Rattle.ec_coe.specs.Objects.{Dictionary, byte_value, is_assignment, parameter_of, has_parameters, no_values_if, object_values, own_values}
-use Rattle.ec_coe.specs.Transfers.{value_at, kept_value, uploaded, uploaded_by, parameter_written, written_by, downloaded}
+use Rattle.ec_coe.specs.Objects.{Dictionary, byte_value, parameter_of, has_parameters, no_values_if, object_values, own_values}
+use Rattle.ec_coe.specs.Transfers.{value_at, kept_value, uploaded, uploaded_by, written_by, downloaded}
 use Rattle.ec_coe.specs.SwitchedOn.{bare_dictionary, first_value, value_size}
 use Rattle.ec_coe.specs.Answers.{download_answer, normal_answer, upload_answer, upload_reply, answer_by, answered, value_of}
 use Rattle.ec_coe.specs.ReplyBytes.{letters_behind, message_with, bytes_with, reply_bytes}
-use Rattle.ec_coe.specs.Replies.{is_aside, is_unsized, sized_command, sized_message, reply_in, reply_of, free_reply_of}
+use Rattle.ec_coe.specs.Replies.{is_aside, is_unsized, sized_command, reply_in}
 use Rattle.ec_coe.specs.Refusals.{service_in, sdo_request, sdo_response}
-use Rattle.ec_coe.specs.Emergency.{emergency_bytes}
-use Rattle.ec_coe.specs.DeviceLaws.{AreSetAside, SizedRepliesAreReplies, KeepsParameter, ParametersAreKept, SizesStay, FirstValuesHaveSizes, PlainDictionaries, IsLeftAssigned, FixedAssignmentsStay}
+use Rattle.ec_coe.specs.DeviceLaws.{AreSetAside, SizedRepliesAreReplies, ParametersAreKept, SizesStay, FirstValuesHaveSizes, PlainDictionaries, IsLeftAssigned, FixedAssignmentsStay}
 use Rattle.ec_coe.proofs.ReadBack.{has-type}
 use Rattle.ec_coe.proofs.DownloadEffects.{Effect, Assigns, Puts, Changed, Same, Done, answered-changed, answered-slots}
 use Rattle.ec_coe.proofs.AssignmentsStay.{no-parameter}

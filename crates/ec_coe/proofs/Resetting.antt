@@ -1,5 +1,5 @@
 -- Parameters that get the values that their objects have without them, and how they are found among the values.
-use Rattle.std.proofs.Common.{ℕ, zero, suc, ◌+◌, ◌<◌, ◌≤◌, ◌≡◌, ◌≢◌, Bool, true, false, refl, sym, ◌∙◌, ap, inl, inr, arith, List, [], ◌∷◌, length, map, set, get_or, slice_get, Option, Some, None, IfSome, Result, Ok, Err, unwrap_or, length-set}
+use Rattle.std.proofs.Common.{ℕ, zero, suc, ◌+◌, ◌<◌, ◌≤◌, ◌≡◌, ◌≢◌, Bool, true, false, refl, sym, ◌∙◌, ap, inl, inr, arith, List, [], ◌∷◌, length, map, set, slice_get, Option, Some, None, IfSome, Result, Ok, Err, unwrap_or, length-set}
 use Rattle.std.specs.Option.{option_or}
 use Rattle.std.proofs.lemmas.Bool.{cases_eq}
 use Rattle.std.proofs.lemmas.List.{same_lists, length-map}

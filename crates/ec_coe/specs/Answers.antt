@@ -1,7 +1,6 @@
 -- The reply of a slave to an SDO request (ETG.1000.6, "SDO services", expedited transfer; "Upload SDO normal response").
 use Rattle.std.specs.Prelude.{ℕ, ◌==◌, ◌&&◌, Bool, false, if◌then◌else◌, Option, Some, None, Result, Ok, Err}
 use Rattle.ec_device.specs.declared.slave_type.Face.{Face}
-use Rattle.ec_coe.specs.declared.value.ValueSize.{ValueSize}
 use Rattle.ec_coe.specs.declared.value.SdoValue.{SdoValue}
 use Rattle.ec_coe.specs.declared.message.Service.{Service}
 use Rattle.ec_coe.specs.declared.message.Service.TheVariants.{Request, Response}

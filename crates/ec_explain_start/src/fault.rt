@@ -314,16 +314,16 @@ impl fmt::Display for DeviceText {
     }
 }
 
-/// What a slave means by an AL status code.
-fn status_meaning(code: u16) -> &'static str {
+/// What a slave means by an AL status code (ETG.1000.6, "AL status code").
+pub fn status_meaning(code: u16) -> &'static str {
     match StatusCode::text(code) {
         Some(text) => text.meaning,
         None => OTHER_CODE,
     }
 }
 
-/// What a slave means by the abort code of an SDO transfer.
-fn abort_meaning(code: u32) -> &'static str {
+/// What a slave means by the abort code of an SDO transfer (ETG.1000.6, "Abort SDO transfer").
+pub fn abort_meaning(code: u32) -> &'static str {
     match AbortCode::text(code) {
         Some(text) => text.meaning,
         None => OTHER_CODE,

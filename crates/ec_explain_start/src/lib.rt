@@ -6,5 +6,6 @@ mod fault;
 mod starting;
 mod steps;
 
-pub use crate::fault::StartFault;
+pub use crate::fault::{StartFault, abort_meaning, status_meaning};
 pub use crate::starting::{explain_cycle_error, explain_start_error, explain_wire_fault};
+pub use crate::steps::Request;

@@ -1,11 +1,12 @@
 -- What stands at the front of words: a category, a sync manager, a PDO or an entry; by the words at its places.
-use Rattle.std.proofs.Common.{ℕ, zero, suc, ◌+◌, ◌*◌, ◌/◌, ◌%◌, ◌<◌, ◌≤◌, ◌≡◌, ◌≢◌, ◌==◌, ◌||◌, List, [], ◌∷◌, length, take, drop, map, filter, min, Bool, true, false, None, Some, get_or, refl, sym, ap, ◌∙◌, arith, inl, inr}
+use Rattle.std.proofs.Common.{ℕ, zero, suc, ◌+◌, ◌*◌, ◌/◌, ◌%◌, ◌<◌, ◌≤◌, ◌≡◌, ◌≢◌, ◌==◌, ◌&&◌, ◌||◌, not, List, [], ◌∷◌, length, take, drop, map, filter, min, Bool, true, false, None, Some, get_or, refl, sym, ap, ◌∙◌, arith, inl, inr}
+use Rattle.std.specs.List.{list_any}
 use Rattle.std.proofs.lemmas.Bool.{cases_lt, eq-eqb, lt-leb, ne_eqb}
 use Rattle.std.proofs.lemmas.List.{drop_all, drop_min, take_all, take_min}
 use Rattle.ec_device.specs.declared.slave_type.Entry.{Entry}
 use Rattle.ec_device.specs.declared.slave_type.Pdo.{Pdo}
 use Rattle.ec_sii.specs.Reading.{category_found, found_behind, managers_read, pdos_read, ReadPdo}
-use Rattle.ec_found.specs.Founds.{ShownManager, entries_of, is_delivered, managers_in, pdos_in, plain_entries, plain_entry, plain_pdo, used_from}
+use Rattle.ec_found.specs.Founds.{ShownManager, entries_of, has_second, has_stray, is_stray, managers_in, pdos_in, plain_entries, plain_entry, plain_pdo, used_from}
 use Rattle.ec_found.proofs.EntryWords.{cut-pdo, headed, no_pdos, whole-pdo}
 use Rattle.ec_found.proofs.Steps.{a_manager, at_category, no_manager, none_left, one_left, one_of_four, passed_end, passed_word, three_of_four, two_of_four}
 
@@ -66,11 +67,11 @@ past_all usage (m ∷ ms) = refl
 pub manager_past : (usage : ℕ) (ws : List ℕ) → used_from usage 16 (managers_in ws) ≡ None
 manager_past usage ws = past_all usage (managers_in ws)
 
-first_manager : (a b c d : ℕ) (ws : List ℕ) → managers_in (a ∷ b ∷ c ∷ d ∷ ws) ≡ record { usage = d / 256; start = a; control = c % 256 } ∷ managers_in ws
+first_manager : (a b c d : ℕ) (ws : List ℕ) → managers_in (a ∷ b ∷ c ∷ d ∷ ws) ≡ record { usage = d / 256; start = a; long = b; control = c % 256 } ∷ managers_in ws
 first_manager a b c d ws = rw (a_manager a b c d ws) refl
 
 pub manager_here : (usage number : ℕ) (ws : List ℕ) → number < 16 → 4 ≤ length ws → get_or ws 3 0 / 256 ≡ usage
-    → used_from usage number (managers_in ws) ≡ Some (record { number = number; start = get_or ws 0 0; control = get_or ws 2 0 % 256 })
+    → used_from usage number (managers_in ws) ≡ Some (record { number = number; start = get_or ws 0 0; long = get_or ws 1 0; control = get_or ws 2 0 % 256 })
 manager_here usage number [] few l e = absurd (omega (arith, l))
 manager_here usage number (a ∷ []) few l e = absurd (omega (arith, l))
 manager_here usage number (a ∷ b ∷ []) few l e = absurd (omega (arith, l))
@@ -90,6 +91,32 @@ manager_passed usage number (a ∷ b ∷ c ∷ d ∷ ws) few l e =
     let n : (d / 256 == usage) ≡ false = ne_eqb (d / 256) usage e in
     let below = lt-leb 16 number few in
     ap (used_from usage number) (first_manager a b c d ws) ∙ rw (below, n) refl
+
+-- ---- a second one
+
+second_none_read : (behind : Bool) (usage : ℕ) (ws : List ℕ) → managers_read ws ≡ [] → has_second behind usage (managers_in ws) ≡ false
+second_none_read behind usage ws e = rw e refl
+
+pub second_none : (behind : Bool) (usage : ℕ) (ws : List ℕ) → length ws < 4 → has_second behind usage (managers_in ws) ≡ false
+second_none behind usage [] l = second_none_read behind usage [] no_manager
+second_none behind usage (a ∷ []) l = second_none_read behind usage (a ∷ []) (one_of_four a)
+second_none behind usage (a ∷ b ∷ []) l = second_none_read behind usage (a ∷ b ∷ []) (two_of_four a b)
+second_none behind usage (a ∷ b ∷ c ∷ []) l = second_none_read behind usage (a ∷ b ∷ c ∷ []) (three_of_four a b c)
+second_none behind usage (a ∷ b ∷ c ∷ d ∷ ws) l = absurd (omega (arith, l))
+
+pub second_next : (behind : Bool) (usage : ℕ) (ws : List ℕ) → 4 ≤ length ws
+    → has_second behind usage (managers_in ws)
+    ≡ (behind && ((get_or ws 3 0 / 256 == usage) && not (get_or ws 1 0 == 0))) || has_second (behind || (get_or ws 3 0 / 256 == usage)) usage (managers_in (drop 4 ws))
+second_next behind usage [] l = absurd (omega (arith, l))
+second_next behind usage (a ∷ []) l = absurd (omega (arith, l))
+second_next behind usage (a ∷ b ∷ []) l = absurd (omega (arith, l))
+second_next behind usage (a ∷ b ∷ c ∷ []) l = absurd (omega (arith, l))
+second_next behind usage (a ∷ b ∷ c ∷ d ∷ ws) l = ap (has_second behind usage) (first_manager a b c d ws)
+
+pub second_here : (behind : Bool) (usage : ℕ) (ws : List ℕ) → 4 ≤ length ws → behind ≡ true → (get_or ws 3 0 / 256 == usage) ≡ true → get_or ws 1 0 ≢ 0 → has_second behind usage (managers_in ws) ≡ true
+second_here behind usage ws l t u some =
+    let long : (get_or ws 1 0 == 0) ≡ false = ne_eqb (get_or ws 1 0) 0 some in
+    second_next behind usage ws l ∙ rw (t, u, long) refl
 
 -- ---- a PDO
 
@@ -130,17 +157,25 @@ pdo_first ws l = elim (cases_lt (length (drop 4 ws)) (4 * (get_or ws 1 0 % 256))
 ]
 
 -- what is taken of PDOs
-abbrev taken : Bool → List ReadPdo → List Pdo
-taken all rs = map (λ (r : ReadPdo). plain_pdo r.pdo) (filter (λ (r : ReadPdo). all || is_delivered r) rs)
+abbrev taken : Bool → ℕ → List ReadPdo → List Pdo
+taken all manager rs = map (λ (r : ReadPdo). plain_pdo r.pdo) (filter (λ (r : ReadPdo). all || (r.manager == manager)) rs)
 
-pub pdos_first : (all : Bool) (ws behind : List ℕ) (r : ReadPdo) → pdos_read ws ≡ r ∷ pdos_read behind → (all || is_delivered r) ≡ true → pdos_in all ws ≡ plain_pdo r.pdo ∷ pdos_in all behind
-pdos_first all ws behind r e t = ap (taken all) e ∙ rw t refl
+pub pdos_first : (all : Bool) (manager : ℕ) (ws behind : List ℕ) (r : ReadPdo) → pdos_read ws ≡ r ∷ pdos_read behind → (all || (r.manager == manager)) ≡ true
+    → pdos_in all manager ws ≡ plain_pdo r.pdo ∷ pdos_in all manager behind
+pdos_first all manager ws behind r e t = ap (taken all manager) e ∙ rw t refl
 
-pub pdos_other : (all : Bool) (ws behind : List ℕ) (r : ReadPdo) → pdos_read ws ≡ r ∷ pdos_read behind → (all || is_delivered r) ≡ false → pdos_in all ws ≡ pdos_in all behind
-pdos_other all ws behind r e t = ap (taken all) e ∙ rw t refl
+pub pdos_other : (all : Bool) (manager : ℕ) (ws behind : List ℕ) (r : ReadPdo) → pdos_read ws ≡ r ∷ pdos_read behind → (all || (r.manager == manager)) ≡ false
+    → pdos_in all manager ws ≡ pdos_in all manager behind
+pdos_other all manager ws behind r e t = ap (taken all manager) e ∙ rw t refl
 
-pub pdos_end : (all : Bool) (ws : List ℕ) → pdos_read ws ≡ [] → pdos_in all ws ≡ []
-pdos_end all ws e = ap (taken all) e
+pub pdos_end : (all : Bool) (manager : ℕ) (ws : List ℕ) → pdos_read ws ≡ [] → pdos_in all manager ws ≡ []
+pdos_end all manager ws e = ap (taken all manager) e
+
+pub stray_first : (manager : ℕ) (ws behind : List ℕ) (r : ReadPdo) → pdos_read ws ≡ r ∷ pdos_read behind → has_stray manager ws ≡ is_stray manager r || has_stray manager behind
+stray_first manager ws behind r e = ap (list_any (is_stray manager)) e
+
+pub stray_end : (manager : ℕ) (ws : List ℕ) → pdos_read ws ≡ [] → has_stray manager ws ≡ false
+stray_end manager ws e = ap (list_any (is_stray manager)) e
 
 -- ---- an entry
 

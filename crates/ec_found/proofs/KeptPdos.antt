@@ -1,10 +1,10 @@
 -- Of a type within its limits, a table takes all PDOs, and no entry is changed.
-use Rattle.std.proofs.Common.{ℕ, suc, ◌+◌, ◌<◌, ◌≤◌, ◌≡◌, ◌≢◌, ◌==◌, ◌&&◌, ◌||◌, not, nat_le, nat_lt, if◌then◌else◌, List, [], ◌∷◌, ◌++◌, length, map, filter, take, get_or, Bool, true, false, All, AllPairs, refl, sym, ap, subst, ◌∙◌, arith, inl, inr, append_assoc, append-nil}
+use Rattle.std.proofs.Common.{ℕ, suc, ◌+◌, ◌<◌, ◌≤◌, ◌≡◌, ◌≢◌, ◌==◌, ◌&&◌, ◌||◌, not, nat_le, nat_lt, if◌then◌else◌, List, [], ◌∷◌, ◌++◌, length, map, take, get_or, Bool, true, false, All, AllPairs, refl, sym, ap, ◌∙◌, arith, inl, inr, append_assoc, append-nil}
 use Rattle.std.specs.List.{list_all}
 use Rattle.std.proofs.lemmas.Bool.{and_from, and_parts, cases_Bool, eqb-true, eq-eqb, false_from_ne_true, le-leb, leb-true, lt-ltb, ltb-true, not-true, not_from_false, not_from_true, or_left, or_right}
 use Rattle.std.proofs.lemmas.List.{take_more}
-use Rattle.std.proofs.lemmas.List.Elements.{All-cons, All-filter, All-push}
-use Rattle.std.proofs.lemmas.List.Kept.{AllPairs-cons, AllPairs-filter}
+use Rattle.std.proofs.lemmas.List.Elements.{All-cons, All-push}
+use Rattle.std.proofs.lemmas.List.Kept.{AllPairs-cons}
 use Rattle.ec_device.specs.declared.slave_type.Entry.{Entry}
 use Rattle.ec_device.specs.declared.slave_type.Pdo.{Pdo}
 use Rattle.ec_device.specs.Types.{ArePdos, IsEntry, IsPdo}
@@ -19,10 +19,10 @@ rest_of_all P x xs h k d l = h (suc k) d (omega (arith, l))
 abbrev pub Apart : List Pdo → Type 0
 Apart ps = AllPairs (λ (p q : Pdo). p.index ≢ q.index) ps
 
-apart_first : (p : Pdo) (ps : List Pdo) → Apart (p ∷ ps) → All (λ (q : Pdo). p.index ≢ q.index) ps
+pub apart_first : (p : Pdo) (ps : List Pdo) → Apart (p ∷ ps) → All (λ (q : Pdo). p.index ≢ q.index) ps
 apart_first p ps h k d l = h 0 (suc k) d (omega arith) (omega (arith, l))
 
-apart_rest : (p : Pdo) (ps : List Pdo) → Apart (p ∷ ps) → Apart ps
+pub apart_rest : (p : Pdo) (ps : List Pdo) → Apart (p ∷ ps) → Apart ps
 apart_rest p ps h i j d l g = h (suc i) (suc j) d (omega (arith, l)) (omega (arith, g))
 
 -- ---- the tests are the limits
@@ -53,21 +53,26 @@ has_push (q ∷ qs) p i h ne = elim (cases_Bool (q.index == i)) [
   | inr f ↦ rw f (has_push qs p i (rw f at h) ne)
 ]
 
-free_push : (found : List Pdo) (p : Pdo) (ps : List Pdo) → All (λ (q : Pdo). has_index found q.index ≡ false) ps → All (λ (q : Pdo). p.index ≢ q.index) ps
+pub free_push : (found : List Pdo) (p : Pdo) (ps : List Pdo) → All (λ (q : Pdo). has_index found q.index ≡ false) ps → All (λ (q : Pdo). p.index ≢ q.index) ps
     → All (λ (q : Pdo). has_index (found ++ p ∷ []) q.index ≡ false) ps
 free_push found p ps free apart k d l = has_push found p _ (free k d l) (apart k d l)
 
-long_push : (xs : List Pdo) (x : Pdo) → length (xs ++ x ∷ []) ≡ length xs + 1
+pub long_push : (xs : List Pdo) (x : Pdo) → length (xs ++ x ∷ []) ≡ length xs + 1
 long_push [] x = refl
 long_push (y ∷ ys) x = let e = long_push ys x in omega (arith, e)
+
+-- the first of those that are left is taken
+pub takes_next : (first : ℕ) (found : List Pdo) (p : Pdo) (ps : List Pdo) → All (IsPdo first) (p ∷ ps) → All (λ (q : Pdo). has_index found q.index ≡ false) (p ∷ ps)
+    → length found + length (p ∷ ps) ≤ 16 → takes first found p ≡ true
+takes_next first found p ps good free few =
+    and_from _ _ (lt-ltb (length found) 16 (omega (arith, few)))
+    (and_from _ _ (pdo_test first p (first_of_all (IsPdo first) p ps good)) (not_from_false (has_index found p.index) (free 0 p (omega arith))))
 
 kept_all : (first : ℕ) (found ps : List Pdo) → All (IsPdo first) ps → Apart ps → All (λ (q : Pdo). has_index found q.index ≡ false) ps → length found + length ps ≤ 16
     → kept_behind first found ps ≡ found ++ ps
 kept_all first found [] good apart free few = sym (append-nil found)
 kept_all first found (p ∷ ps) good apart free few =
-    let t : takes first found p ≡ true =
-    and_from _ _ (lt-ltb (length found) 16 (omega (arith, few)))
-    (and_from _ _ (pdo_test first p (first_of_all (IsPdo first) p ps good)) (not_from_false (has_index found p.index) (free 0 p (omega arith)))) in
+    let t : takes first found p ≡ true = takes_next first found p ps good free few in
     let more = long_push found p in
     rw t
     (kept_all first (found ++ p ∷ []) ps (rest_of_all (IsPdo first) p ps good) (apart_rest p ps apart)
@@ -182,20 +187,3 @@ kept_taken first ps i d l t = ap (kept first) (take_more ps i d l) ∙ kept_push
 pub kept_left : (first : ℕ) (ps : List Pdo) (i : ℕ) (d : Pdo) → i < length ps → takes first (kept first (take i ps)) (get_or ps i d) ≡ false
     → kept first (take (i + 1) ps) ≡ kept first (take i ps)
 kept_left first ps i d l t = ap (kept first) (take_more ps i d l) ∙ kept_push first [] (take i ps) (get_or ps i d) ∙ rw t refl
-
-limits_filter : (first : ℕ) (test : Pdo → Bool) (ps : List Pdo) → ArePdos first ps → ArePdos first (filter test ps)
-limits_filter first test ps h =
-    let many = fewer_pass test ps in
-    let few = h.few in
-    record {
-      few = omega (arith, many, few);
-      each = All-filter test (IsPdo first) ps h.each;
-      apart = AllPairs-filter (λ (p q : Pdo). p.index ≢ q.index) test ps h.apart;
-    }
-  where
-    fewer_pass : (test : Pdo → Bool) (ps : List Pdo) → length (filter test ps) ≤ length ps
-    fewer_pass test [] = omega arith
-    fewer_pass test (p ∷ ps) = let more = fewer_pass test ps in elim (cases_Bool (test p)) [ inl t ↦ rw t (omega (arith, more)) | inr f ↦ rw f (omega (arith, more)) ]
-
-pub limits_left : (first : ℕ) (test : Pdo → Bool) (all ps qs : List Pdo) → ArePdos first ps → qs ≡ filter test all → all ≡ ps → ArePdos first qs
-limits_left first test all ps qs h e f = subst (ArePdos first) (sym (e ∙ ap (filter test) f)) (limits_filter first test ps h)

@@ -10,6 +10,7 @@ mod SameTypes
 mod Together
 mod Planned
 mod Stated
+mod Noted
 mod WordBytes
 mod FullTypes
 mod SameSlaves

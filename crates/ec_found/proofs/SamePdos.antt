@@ -1,12 +1,12 @@
 -- PDOs that CoE says are exchanged, if they are some of those that are there anyhow, change nothing.
-use Rattle.std.proofs.Common.{ℕ, zero, suc, ◌<◌, ◌≤◌, ◌≡◌, ◌==◌, not, List, [], ◌∷◌, ◌++◌, length, map, filter, Bool, true, false, All, Option, None, Some, unwrap_or, nat_le, if◌then◌else◌, slice_index_or, refl, sym, ap, ◌∙◌, arith, inl, inr, append-nil}
+use Rattle.std.proofs.Common.{ℕ, zero, suc, ◌<◌, ◌≤◌, ◌≡◌, ◌==◌, ◌&&◌, not, List, [], ◌∷◌, ◌++◌, length, map, Bool, true, false, All, Option, None, Some, unwrap_or, nat_le, if◌then◌else◌, slice_index_or, refl, sym, ap, ◌∙◌, arith, inl, inr, append-nil}
 use Rattle.std.specs.List.{Contains}
 use Rattle.std.specs.Option.{ForSome}
-use Rattle.std.proofs.lemmas.Bool.{cases_Bool, cases_lt, eq-eqb, eqb-true, le-leb, not_from_true}
+use Rattle.std.proofs.lemmas.Bool.{and_right, cases_Bool, cases_lt, eq-eqb, eqb-true, le-leb, not_from_true}
 use Rattle.std.proofs.lemmas.List.{get_or_default}
 use Rattle.ec_device.specs.declared.slave_type.Pdo.{Pdo}
 use Rattle.ec_device.specs.Objects.{pdo_at}
-use Rattle.ec_found.specs.Founds.{exchanged_first, has_index, joined, merged}
+use Rattle.ec_found.specs.Founds.{exchanged_first, has_index, joined, merged, others}
 use Rattle.ec_found.proofs.KeptPdos.{Apart, first_of_all, rest_of_all}
 
 map_same : (f : Pdo → Pdo) (ps : List Pdo) → All (λ (p : Pdo). f p ≡ p) ps → map f ps ≡ ps
@@ -27,11 +27,12 @@ has_at (p ∷ ps) (suc k) q l e = elim (cases_Bool (p.index == q.index)) [
   | inr f ↦ rw f (has_at ps k q (omega (arith, l)) e)
 ]
 
-none_besides : (ps qs : List Pdo) → All (Contains ps) qs → filter (λ (q : Pdo). not (has_index ps q.index)) qs ≡ []
+none_besides : (ps qs : List Pdo) → All (Contains ps) qs → others qs ps ≡ []
 none_besides ps [] h = refl
 none_besides ps (q ∷ qs) h =
     let there = first_of_all (Contains ps) q qs h in
-    let t : not (has_index ps q.index) ≡ false = not_from_true (has_index ps q.index) (has_at ps there.0 q there.1 there.2) in
+    let t : (not (q.index == 0) && not (has_index ps q.index)) ≡ false =
+    and_right (not (q.index == 0)) (not (has_index ps q.index)) (not_from_true (has_index ps q.index) (has_at ps there.0 q there.1 there.2)) in
     rw t (none_besides ps qs (rest_of_all (Contains ps) q qs h))
 
 -- ---- each has the mapping that it has there
@@ -63,7 +64,7 @@ same_mappings ps qs apart h k d l = own_mapping (slice_index_or ps k d) qs other
 
 joined_same : (ps qs : List Pdo) → Apart ps → All (Contains ps) qs → joined ps qs ≡ ps
 joined_same ps qs apart h =
-    ap (λ (xs : List Pdo). xs ++ filter (λ (q : Pdo). not (has_index ps q.index)) qs) (map_same (λ (p : Pdo). unwrap_or (pdo_at qs p.index) p) ps (same_mappings ps qs apart h))
+    ap (λ (xs : List Pdo). xs ++ others qs ps) (map_same (λ (p : Pdo). unwrap_or (pdo_at qs p.index) p) ps (same_mappings ps qs apart h))
     ∙ ap (λ (xs : List Pdo). ps ++ xs) (none_besides ps qs h)
     ∙ append-nil ps
 

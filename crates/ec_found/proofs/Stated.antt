@@ -58,5 +58,16 @@ a_row c place f k row kind same l is rest = record {
   inputs = rest.2;
 }
 
+-- and so it is if it has the row
+pub of_row : (c : Contents) (place : ℕ) (f : Found) (k : SlaveKind) (row : SlaveRow) → kind_of c place ≡ Some k → place < length c.slaves → row ≡ get_or c.slaves place row → IsRowOf c place f
+    → (k ≡ f.kind) × (row.serial ≡ f.serial) × (row.outputs ≡ f.outputs) × (row.inputs ≡ f.inputs)
+of_row c place f k row kind l is r =
+    let same : row ≡ r.row = from_some row r.row (ap (λ (x : SlaveRow). Some x) is ∙ sym (there_at c.slaves place row l) ∙ r.there) in (
+      from_some k f.kind (sym kind ∙ r.kind),
+      ap (λ (x : SlaveRow). x.serial) same ∙ r.serial,
+      ap (λ (x : SlaveRow). x.outputs) same ∙ r.outputs,
+      ap (λ (x : SlaveRow). x.inputs) same ∙ r.inputs,
+    )
+
 pub stated_found : (text : List ℕ) (fs : List Found) (c : Contents) → StatesMachine text c → HasFound fs c → StatesFound text fs
 stated_found text fs c stated found = record { table = c; stated = stated; found = found }

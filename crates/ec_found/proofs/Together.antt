@@ -1,16 +1,17 @@
 -- PDOs that a table can assign together have no entry twice.
-use Rattle.std.proofs.Common.{ℕ, zero, suc, ◌+◌, ◌<◌, ◌≡◌, ◌==◌, ◌&&◌, ◌||◌, not, if◌then◌else◌, List, [], ◌∷◌, ◌++◌, length, filter, find, take, get_or, slice_index_or, Bool, true, false, All, None, refl, sym, ap, ◌∙◌, arith, inl, inr, append_assoc, append-nil}
+use Rattle.std.proofs.Common.{ℕ, zero, suc, ◌+◌, ◌<◌, ◌≤◌, ◌≡◌, ◌==◌, ◌&&◌, ◌||◌, not, if◌then◌else◌, List, [], ◌∷◌, ◌++◌, length, find, drop, take, get_or, slice_index_or, Bool, true, false, All, None, refl, sym, ap, ◌∙◌, arith, inl, inr, append_assoc, append-nil, drop-cons}
 use Rattle.std.specs.List.{list_any}
 use Rattle.std.proofs.lemmas.Bool.{cases_Bool, eq-eqb}
 use Rattle.std.proofs.lemmas.Grind.{flat_map-append}
-use Rattle.std.proofs.lemmas.List.{take_more}
+use Rattle.std.proofs.lemmas.List.{drop_all, take_more}
 use Rattle.std.proofs.lemmas.List.Folds.{list_any-append}
 use Rattle.ec_device.specs.declared.slave_type.Entry.{Entry}
 use Rattle.ec_device.specs.declared.slave_type.Pdo.{Pdo}
 use Rattle.ec_device.specs.Objects.{assigned_entries, entries_at}
 use Rattle.ec_link.specs.Entries.{is_named, names_twice}
-use Rattle.ec_found.specs.Founds.{has, indices, listed, together, together_behind}
-use Rattle.ec_found.proofs.KeptPdos.{first_of_all, rest_of_all}
+use Rattle.ec_device.specs.Types.{ArePdos, IsPdo}
+use Rattle.ec_found.specs.Founds.{front, front_behind, has, has_index, indices, listed, takes, together, together_behind}
+use Rattle.ec_found.proofs.KeptPdos.{Apart, apart_first, apart_rest, first_of_all, free_push, kept_same, long_push, rest_of_all, takes_next}
 
 -- ---- entries that stand twice
 
@@ -115,27 +116,58 @@ none_missing js (i ∷ is) h =
 pub none_left_out : (ps : List Pdo) (is : List ℕ) → names_twice (assigned_entries ps is) ≡ false → find (λ i. not (has (together ps is) i)) is ≡ None
 none_left_out ps is h = ap (λ (js : List ℕ). find (λ i. not (has js i)) is) (together_same ps is h) ∙ none_missing is is (has_each is)
 
+-- ---- those in front
+
+pub indices_push : (ps : List Pdo) (p : Pdo) → indices (ps ++ p ∷ []) ≡ indices ps ++ p.index ∷ []
+indices_push [] p = refl
+indices_push (q ∷ qs) p = ap (λ (is : List ℕ). q.index ∷ is) (indices_push qs p)
+
+here : (all : List Pdo) (k : ℕ) (p : Pdo) → k < length all → p ≡ get_or all k p → drop k all ≡ p ∷ drop (k + 1) all
+here all k p lt is =
+    let on : suc k ≡ k + 1 = omega arith in
+    drop-cons all k p lt ∙ (ap (λ (q : Pdo). q ∷ drop (suc k) all) (sym is) ∙ ap (λ (n : ℕ). p ∷ drop n all) on)
+
+pub front_taken : (first : ℕ) (all found : List Pdo) (is : List ℕ) (k : ℕ) (p : Pdo) → k < length all → p ≡ get_or all k p → is ≡ indices found → takes first found p ≡ true
+    → names_twice (assigned_entries all (is ++ p.index ∷ [])) ≡ false → front_behind first all found (drop k all) ≡ front_behind first all (found ++ p ∷ []) (drop (k + 1) all)
+front_taken first all found is k p lt at same t f =
+    let g : names_twice (assigned_entries all (indices found ++ p.index ∷ [])) ≡ false = ap (λ (js : List ℕ). names_twice (assigned_entries all (js ++ p.index ∷ []))) (sym same) ∙ f in
+    ap (front_behind first all found) (here all k p lt at) ∙ rw (t, g) refl
+
+pub front_refused : (first : ℕ) (all found : List Pdo) (k : ℕ) (p : Pdo) → k < length all → p ≡ get_or all k p → takes first found p ≡ false → front_behind first all found (drop k all) ≡ found
+front_refused first all found k p lt at f = ap (front_behind first all found) (here all k p lt at) ∙ rw f refl
+
+pub front_repeated : (first : ℕ) (all found : List Pdo) (is : List ℕ) (k : ℕ) (p : Pdo) → k < length all → p ≡ get_or all k p → is ≡ indices found → takes first found p ≡ true
+    → names_twice (assigned_entries all (is ++ p.index ∷ [])) ≡ true → front_behind first all found (drop k all) ≡ found
+front_repeated first all found is k p lt at same t f =
+    let g : names_twice (assigned_entries all (indices found ++ p.index ∷ [])) ≡ true = ap (λ (js : List ℕ). names_twice (assigned_entries all (js ++ p.index ∷ []))) (sym same) ∙ f in
+    ap (front_behind first all found) (here all k p lt at) ∙ rw (t, g) refl
+
+pub front_end : (first : ℕ) (all found : List Pdo) → front_behind first all found (drop (length all) all) ≡ found
+front_end first all found = ap (front_behind first all found) (drop_all (length all) all (omega arith))
+
 -- ---- a type lists all
 
-filter_same : (test : Pdo → Bool) (ps : List Pdo) → All (λ (p : Pdo). test p ≡ true) ps → filter test ps ≡ ps
-filter_same test [] h = refl
-filter_same test (p ∷ ps) h =
-    let t : test p ≡ true = first_of_all (λ (q : Pdo). test q ≡ true) p ps h in
-    rw t (ap (λ (qs : List Pdo). p ∷ qs) (filter_same test ps (rest_of_all (λ (q : Pdo). test q ≡ true) p ps h)))
+front_all : (first : ℕ) (all found ps : List Pdo) → All (IsPdo first) ps → Apart ps → All (λ (q : Pdo). has_index found q.index ≡ false) ps → length found + length ps ≤ 16
+    → names_twice (assigned_entries all (indices found ++ indices ps)) ≡ false → front_behind first all found ps ≡ found ++ ps
+front_all first all found [] good apart free few once = sym (append-nil found)
+front_all first all found (p ∷ ps) good apart free few once =
+    let more : names_twice (assigned_entries all ((indices found ++ p.index ∷ []) ++ indices ps)) ≡ false =
+    ap (λ (js : List ℕ). names_twice (assigned_entries all js)) (append_assoc (indices found) (p.index ∷ []) (indices ps)) ∙ once in
+    let here : names_twice (assigned_entries all (indices found ++ p.index ∷ [])) ≡ false =
+    once_front (assigned_entries all (indices found ++ p.index ∷ [])) (assigned_entries all (indices ps))
+    (ap names_twice (sym (flat_map-append (entries_at all) (indices found ++ p.index ∷ []) (indices ps))) ∙ more) in
+    let t : takes first found p ≡ true = takes_next first found p ps good free few in
+    let long = long_push found p in
+    let on : names_twice (assigned_entries all (indices (found ++ p ∷ []) ++ indices ps)) ≡ false =
+    ap (λ (js : List ℕ). names_twice (assigned_entries all (js ++ indices ps))) (indices_push found p) ∙ more in
+    rw (t, here)
+    (front_all first all (found ++ p ∷ []) ps (rest_of_all (IsPdo first) p ps good) (apart_rest p ps apart)
+    (free_push found p ps (rest_of_all (λ (q : Pdo). has_index found q.index ≡ false) p ps free) (apart_first p ps apart)) (omega (arith, few, long)) on
+    ∙ append_assoc found (p ∷ []) ps)
 
-has_index_of_each : (ps : List Pdo) → All (λ (p : Pdo). has (indices ps) p.index ≡ true) ps
-has_index_of_each [] k d l = absurd (omega (arith, l))
-has_index_of_each (p ∷ ps) zero d l = let t : (p.index == p.index) ≡ true = eq-eqb p.index p.index refl in rw t refl
-has_index_of_each (p ∷ ps) (suc k) d l = elim (cases_Bool (p.index == (slice_index_or ps k d).index)) [
-  | inl t ↦ rw t refl
-  | inr f ↦ rw f (has_index_of_each ps k d (omega (arith, l)))
-]
+pub front_same : (first : ℕ) (ps : List Pdo) → ArePdos first ps → names_twice (assigned_entries ps (indices ps)) ≡ false → front first ps ≡ ps
+front_same first ps h once = let few = h.few in front_all first ps [] ps h.each h.apart (λ k d l. refl) (omega (arith, few)) once
 
-listed_all : (ps : List Pdo) → names_twice (assigned_entries ps (indices ps)) ≡ false → listed false ps ≡ ps
-listed_all ps h =
-    ap (λ (is : List ℕ). filter (λ (p : Pdo). has is p.index) ps) (together_same ps (indices ps) h)
-    ∙ filter_same (λ (p : Pdo). has (indices ps) p.index) ps (has_index_of_each ps)
-
-pub listed_same : (assignable : Bool) (ps : List Pdo) → (assignable ≡ false → names_twice (assigned_entries ps (indices ps)) ≡ false) → listed assignable ps ≡ ps
-listed_same true ps h = refl
-listed_same false ps h = listed_all ps (h refl)
+pub listed_same : (assignable : Bool) (first : ℕ) (ps : List Pdo) → ArePdos first ps → (assignable ≡ false → names_twice (assigned_entries ps (indices ps)) ≡ false) → listed assignable first ps ≡ ps
+listed_same true first ps h once = kept_same first ps h
+listed_same false first ps h once = front_same first ps h (once refl)

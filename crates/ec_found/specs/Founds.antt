@@ -3,6 +3,7 @@
 use Rattle.std.specs.Prelude.{◌≡◌, ℕ, ◌+◌, ◌/◌, ◌%◌, ◌==◌, ◌&&◌, ◌||◌, not, List, [], ◌∷◌, ◌++◌, length, map, filter, find, Bool, true, false, nat_le, nat_lt, if◌then◌else◌, slice_index, Option, Some, None, is_some, is_none, unwrap_or}
 use Rattle.std.specs.Int.{bit_at}
 use Rattle.std.specs.List.{list_all, list_any}
+use Rattle.ec_bits.specs.Bits.{bytes_of_bits}
 use Rattle.ec_device.specs.declared.slave_type.Entry.{Entry}
 use Rattle.ec_device.specs.declared.slave_type.Pdo.{Pdo}
 use Rattle.ec_device.specs.declared.slave_type.Mailbox.{Mailbox}
@@ -10,13 +11,16 @@ use Rattle.ec_device.specs.declared.hardware.Hardware.{Hardware}
 use Rattle.ec_device.specs.declared.hardware.ProcessManager.{ProcessManager}
 use Rattle.ec_device.specs.Hardware.{are_pins, other_name}
 use Rattle.ec_device.specs.Objects.{assigned_entries, pdo_at}
-use Rattle.ec_device.specs.Types.{SlaveKind, device_of, first_input_index, first_output_index}
+use Rattle.ec_device.specs.Types.{SlaveKind, device_of, first_input_index, first_output_index, pdos_bits}
 use Rattle.ec_link.specs.Entries.{names_twice}
+use Rattle.ec_table.specs.declared.rows.Direction.{Direction}
+use Rattle.ec_table.specs.declared.rows.Direction.TheVariants.{In, Out}
 use Rattle.ec_sii.specs.Reading.{bytes_of, category_found, managers_read, pdos_read, ReadPdo}
 use Rattle.ec_scan.specs.declared.shown.Shown.{Shown}
 use Rattle.ec_scan.specs.Showing.{usable}
 use Rattle.ec_found.specs.declared.areas.Areas.{Areas}
 use Rattle.ec_found.specs.declared.reading.UsedManager.{UsedManager}
+use Rattle.ec_found.specs.declared.found.Gaps.{Gaps}
 use Rattle.ec_found.specs.declared.found.Unsaid.{Unsaid}
 use Rattle.ec_found.specs.declared.found.Unsaid.TheVariants as unsaid
 use Rattle.ec_found.specs.declared.found.Found.{Found}
@@ -40,32 +44,60 @@ has_lrw s = not (bit_at (byte_in (words_of 30 s) 11) 1 == 1)
 abbrev pub is_fixed : Shown → Bool
 is_fixed s = is_some (usable s.mailbox) && (is_some (category_found 30 s.categories) && not (bit_at (byte_in (words_of 30 s) 5) 2 == 1))
 
+-- ---- the directions of the process data
+
+-- the first index of their PDOs
+abbrev pub first_of : Direction → ℕ
+first_of Out = first_output_index
+first_of In = first_input_index
+
+-- the category of their PDOs: TxPDOs are inputs, RxPDOs outputs
+abbrev pub category_of : Direction → ℕ
+category_of Out = 51
+category_of In = 50
+
+-- what their sync managers are used for
+abbrev pub usage_of : Direction → ℕ
+usage_of Out = 3
+usage_of In = 4
+
+-- the PDOs that CoE says are exchanged, if it says so
+abbrev pub said_by : Direction → Shown → Option (List Pdo)
+said_by Out s = s.outputs
+said_by In s = s.inputs
+
 -- ---- sync managers
 
--- what a sync manager is used for, where its bytes begin, and its control byte
+-- what a sync manager is used for, where its bytes begin, how many they are, and its control byte
 pub record ShownManager : Type 0 where
   pub usage : ℕ
   pub start : ℕ
+  pub long : ℕ
   pub control : ℕ
 
 abbrev pub managers_in : List ℕ → List ShownManager
-managers_in words = map (λ m. record { usage = m.usage; start = m.settings.start; control = m.settings.control }) (managers_read words)
+managers_in words = map (λ m. record { usage = m.usage; start = m.settings.start; long = m.settings.length; control = m.settings.control }) (managers_read words)
 
 -- the first that has a use, of at most 16
 abbrev pub used_from : (usage number : ℕ) → List ShownManager → Option UsedManager
 used_from usage number [] = None
 used_from usage number (m ∷ ms) =
     if nat_le 16 number then None
-    else (if m.usage == usage then Some (record { number = number; start = m.start; control = m.control })
+    else (if m.usage == usage then Some (record { number = number; start = m.start; long = m.long; control = m.control })
     else used_from usage (number + 1) ms)
 
--- usages 3 and 4 are the process data, outputs and inputs
+-- one more with the use, behind the first, has a length
+abbrev pub has_second : (is_behind : Bool) → ℕ → List ShownManager → Bool
+has_second is_behind usage [] = false
+has_second is_behind usage (m ∷ ms) =
+    (is_behind && ((m.usage == usage) && not (m.long == 0))) || has_second (is_behind || (m.usage == usage)) usage ms
+
 abbrev pub used_for : ℕ → Shown → Option UsedManager
 used_for usage s = used_from usage 0 (managers_in (words_of 41 s))
 
 -- a direction without process data has one that nobody uses: 2 for outputs and 3 for inputs, or the other if that is taken
 abbrev pub manager_at : (start number control : ℕ) → UsedManager
-manager_at start number control = record { number = number; start = start; control = control }
+manager_at start number control = record { number = number; start = start; long = 0; control = control }
 
 abbrev pub unused : ℕ → ℕ → UsedManager
 unused number control = manager_at 0 number control
@@ -79,6 +111,10 @@ abbrev pub in_used : Option UsedManager → Option UsedManager → UsedManager
 in_used outputs (Some m) = m
 in_used None None = unused 3 0x20
 in_used (Some m) None = if m.number == 3 then unused 2 0x20 else unused 3 0x20
+
+abbrev pub manager_of : Direction → Shown → UsedManager
+manager_of Out s = out_used (used_for 3 s) (used_for 4 s)
+manager_of In s = in_used (used_for 3 s) (used_for 4 s)
 
 abbrev pub process_manager : UsedManager → ProcessManager
 process_manager m = record { number = m.number; control = m.control }
@@ -101,7 +137,7 @@ areas_with outs ins has_firmware is_fixed = record { out_start = outs.start; in_
 
 -- as it shows them
 abbrev pub areas_shown : Shown → Areas
-areas_shown s = areas_with (out_used (used_for 3 s) (used_for 4 s)) (in_used (used_for 3 s) (used_for 4 s)) s.has_firmware (is_fixed s)
+areas_shown s = areas_with (manager_of Out s) (manager_of In s) s.has_firmware (is_fixed s)
 
 -- where they are, by the usual managers: of a slave whose own a table can't say
 abbrev pub usual_areas : Areas → Areas
@@ -135,27 +171,34 @@ abbrev pub entries_of : List ℕ → List Entry
 entries_of (index ∷ subindex ∷ bits ∷ flags ∷ words) = record { index = index; subindex = subindex % 256; bits = bits / 256 } ∷ entries_of words
 entries_of _ = []
 
--- Those in the words of a category: all of them, or those that the slave exchanges as delivered, which have a sync manager. (A controller
--- has at most 16 of these; 0xFF is none.)
-abbrev pub is_delivered : ReadPdo → Bool
-is_delivered r = nat_lt r.manager 16
+-- Those in the words of a category: all of them, or those that the slave exchanges as delivered by a sync manager
+abbrev pub pdos_in : (all : Bool) → (manager : ℕ) → List ℕ → List Pdo
+pdos_in all manager words = map (λ (r : ReadPdo). plain_pdo r.pdo) (filter (λ (r : ReadPdo). all || (r.manager == manager)) (pdos_read words))
 
-abbrev pub pdos_in : (all : Bool) → List ℕ → List Pdo
-pdos_in all words = map (λ (r : ReadPdo). plain_pdo r.pdo) (filter (λ (r : ReadPdo). all || is_delivered r) (pdos_read words))
+-- one that it exchanges by another. (A controller has at most 16; 0xFF is none.)
+abbrev pub is_stray : (manager : ℕ) → ReadPdo → Bool
+is_stray manager r = nat_lt r.manager 16 && not (r.manager == manager)
+
+abbrev pub has_stray : (manager : ℕ) → List ℕ → Bool
+has_stray manager words = list_any (is_stray manager) (pdos_read words)
 
 abbrev pub has_index : List Pdo → ℕ → Bool
 has_index ps index = is_some (pdo_at ps index)
 
+-- those that aren't among others; one without an index is an empty slot of an assignment
+abbrev pub others : List Pdo → (known : List Pdo) → List Pdo
+others ps known = filter (λ (p : Pdo). not (p.index == 0) && not (has_index known p.index)) ps
+
 -- those of the SII, each with the mapping that CoE has of it; and behind them those that CoE has besides
 abbrev pub joined : List Pdo → List Pdo → List Pdo
-joined ps qs = map (λ (p : Pdo). unwrap_or (pdo_at qs p.index) p) ps ++ filter (λ (q : Pdo). not (has_index ps q.index)) qs
+joined ps qs = map (λ (p : Pdo). unwrap_or (pdo_at qs p.index) p) ps ++ others qs ps
 
 -- the same PDOs, but those that CoE has come first
 abbrev pub exchanged_first : List Pdo → List Pdo → List Pdo
-exchanged_first ps qs = qs ++ filter (λ (p : Pdo). not (has_index qs p.index)) ps
+exchanged_first ps qs = others qs [] ++ others ps qs
 
 -- All PDOs in the order of the SII; if they are more than a table takes, those that are exchanged come first. If the assignment is fixed,
--- the slave exchanges no others.
+-- the slave exchanges no others, and a table can't say an empty slot.
 abbrev pub merged : (fixed : Bool) → List Pdo → Option (List Pdo) → List Pdo
 merged fixed ps None = ps
 merged fixed ps (Some qs) = if fixed then qs else (if nat_le (length (joined ps qs)) 16 then joined ps qs else exchanged_first ps qs)
@@ -205,25 +248,31 @@ has is i = list_any (λ j. j == i) is
 abbrev pub left_out : ℕ → List Pdo → Option (List Pdo) → Option ℕ
 left_out first ps exchanged = find (λ i. not (has (assigned_of first ps exchanged) i)) (exchanged_of first ps exchanged)
 
--- A type lists all of its PDOs if a table says which of them a slave exchanges. Else it lists what its slaves exchange: those that a table
--- can assign together.
-abbrev pub listed : (assignable : Bool) → List Pdo → List Pdo
-listed true ps = ps
-listed false ps = filter (λ (p : Pdo). has (together ps (indices ps)) p.index) ps
+-- those in front of the first that a table doesn't take, or can't assign beside those before it
+abbrev pub front_behind : ℕ → (all found rest : List Pdo) → List Pdo
+front_behind first all found [] = found
+front_behind first all found (p ∷ ps) =
+    if takes first found p && not (names_twice (assigned_entries all (indices found ++ p.index ∷ []))) then front_behind first all (found ++ p ∷ []) ps else found
 
--- TxPDOs (category 50) are inputs, RxPDOs (51) outputs. If CoE doesn't say which are exchanged, they are those that are as delivered.
-abbrev pub all_pdos : ℕ → Shown → Option (List Pdo) → List Pdo
-all_pdos number s exchanged = merged (is_fixed s) (pdos_in (is_some exchanged) (words_of number s)) exchanged
+abbrev pub front : ℕ → List Pdo → List Pdo
+front first all = front_behind first all [] all
 
-abbrev pub all_outputs : Shown → List Pdo
-all_outputs s = all_pdos 51 s s.outputs
+-- A type lists all of its PDOs that a table takes if a table says which of them a slave exchanges. Else its slaves exchange all that it lists,
+-- byte behind byte: where one is left out, those behind it are, too.
+abbrev pub listed : (assignable : Bool) → ℕ → List Pdo → List Pdo
+listed true first all = kept first all
+listed false first all = front first all
 
-abbrev pub all_inputs : Shown → List Pdo
-all_inputs s = all_pdos 50 s s.inputs
+-- If CoE doesn't say which are exchanged, they are those that are as delivered, by the manager of the direction.
+abbrev pub all_pdos : Direction → Shown → List Pdo
+all_pdos d s = merged (is_fixed s) (pdos_in (is_some (said_by d s)) (manager_of d s).number (words_of (category_of d) s)) (said_by d s)
 
 -- a table says which PDOs it exchanges: by CoE it takes them, and its assignment can be written
 abbrev pub is_assignable : Shown → Bool
 is_assignable s = is_some (usable s.mailbox) && not (is_fixed s)
+
+abbrev pub listed_of : Direction → Shown → List Pdo
+listed_of d s = listed (is_assignable s) (first_of d) (all_pdos d s)
 
 -- ---- the type
 
@@ -233,33 +282,72 @@ kind_of s = record {
   mailbox = usable s.mailbox;
   out_start = other_name (Some (areas_of s).hardware) (areas_of s).out_start;
   in_start = (areas_of s).in_start;
-  outputs = listed (is_assignable s) (kept first_output_index (all_outputs s));
-  inputs = listed (is_assignable s) (kept first_input_index (all_inputs s));
+  outputs = listed_of Out s;
+  inputs = listed_of In s;
   lrw = has_lrw s;
   face = None;
   hardware = Some (areas_of s).hardware;
   init = [];
 }
 
--- The first thing that a table can't say of a slave: its mailbox, its sync managers, PDOs that it doesn't take, or a PDO that it can't assign
--- beside others.
+-- ---- what a table can't say of a direction
+
+-- A second sync manager moves a part of it. (Where CoE says which PDOs are exchanged, what the SII says of their managers doesn't count.)
+abbrev pub is_spread : Direction → Shown → Bool
+is_spread d s =
+    has_second false (usage_of d) (managers_in (words_of 41 s))
+    || (not (is_some (said_by d s)) && has_stray (manager_of d s).number (words_of (category_of d) s))
+
+-- A start-up reads or writes by CoE which PDOs are exchanged, and the slave has no object for that.
+abbrev pub is_silent : Direction → Shown → Bool
+is_silent d s = is_some (usable s.mailbox) && (not (is_some (said_by d s)) && not (length (all_pdos d s) == 0))
+
+-- a table doesn't take all PDOs
 abbrev pub lacks : ℕ → List Pdo → Bool
 lacks first ps = nat_lt (length (kept first ps)) (length ps)
 
-abbrev pub repeated : (output input : Option ℕ) → Option Unsaid
-repeated (Some i) input = Some (unsaid.Repeats i)
-repeated None (Some i) = Some (unsaid.Repeats i)
-repeated None None = None
+abbrev pub gaps_of : Direction → Shown → Gaps
+gaps_of d s = record {
+  is_spread = is_spread d s;
+  is_silent = is_silent d s;
+  lacks = lacks (first_of d) (all_pdos d s);
+  left_out = left_out (first_of d) (kept (first_of d) (all_pdos d s)) (said_by d s);
+}
 
-abbrev pub unsaid_of : Shown → Option Unsaid
+-- The sync manager of a direction has another length, unless that is 0, than all of the PDOs, in bytes. (Of what CoE says a start-up finds
+-- out itself.)
+abbrev pub is_whole : Gaps → Bool
+is_whole g = not g.lacks && is_none g.left_out
+
+abbrev pub has_other_size : Direction → Shown → Bool
+has_other_size d s =
+    not (is_some (said_by d s))
+    && (is_whole (gaps_of d s) && (not ((manager_of d s).long == 0) && not ((manager_of d s).long == bytes_of_bits (pdos_bits (listed_of d s)))))
+
+-- ---- what a table can't say of a slave: its mailbox, its sync managers, and so on of each direction
+
+-- there are mailboxes that it can't say
+abbrev pub has_unusable : Shown → Bool
+has_unusable s = not (s.mailbox.place.receive_size == 0) && is_none (usable s.mailbox)
+
+-- one thing more, if it is so
+abbrev pub noted : List Unsaid → Bool → Unsaid → List Unsaid
+noted us is_so u = if is_so then us ++ u ∷ [] else us
+
+-- a PDO that can't be assigned beside others
+abbrev pub repeated : List Unsaid → Option ℕ → List Unsaid
+repeated us None = us
+repeated us (Some i) = us ++ unsaid.Repeats i ∷ []
+
+abbrev pub gaps_noted : List Unsaid → Direction → Gaps → (other_size : Bool) → List Unsaid
+gaps_noted us d g other_size =
+    repeated (noted (noted (noted (noted us g.is_spread (unsaid.Spread d)) g.is_silent (unsaid.Silent d)) g.lacks (unsaid.Pdos d)) other_size (unsaid.Size d)) g.left_out
+
+abbrev pub unsaid_of : Shown → List Unsaid
 unsaid_of s =
-    if not (s.mailbox.place.receive_size == 0) && is_none (usable s.mailbox) then Some unsaid.Mailbox
-    else (if not (is_hardware (usable s.mailbox) (areas_shown s).hardware) then Some unsaid.Managers
-    else (if lacks first_output_index (all_outputs s) then Some unsaid.Outputs
-    else (if lacks first_input_index (all_inputs s) then Some unsaid.Inputs
-    else repeated
-    (left_out first_output_index (kept first_output_index (all_outputs s)) s.outputs)
-    (left_out first_input_index (kept first_input_index (all_inputs s)) s.inputs))))
+    let mailbox = noted [] (has_unusable s) unsaid.Mailbox in
+    let managers = noted mailbox (not (is_hardware (usable s.mailbox) (areas_shown s).hardware)) unsaid.Managers in
+    gaps_noted (gaps_noted managers Out (gaps_of Out s) (has_other_size Out s)) In (gaps_of In s) (has_other_size In s)
 
 -- what is found of a slave
 pub record IsFound (s : Shown) (f : Found) : Type 0 where

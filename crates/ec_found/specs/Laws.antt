@@ -1,5 +1,5 @@
 -- The slaves of a table are found as its types, and a table of slaves that were found assigns no entry twice.
-use Rattle.std.specs.Prelude.{◌≡◌, ◌==◌, ℕ, zero, suc, List, [], ◌++◌, ◌∷◌, All, Contains, Bool, false, true, if◌then◌else◌, Some, None, slice_get}
+use Rattle.std.specs.Prelude.{◌≡◌, ◌≢◌, ◌==◌, ℕ, zero, suc, List, [], ◌++◌, ◌∷◌, All, Contains, Bool, false, true, if◌then◌else◌, Some, None, is_some, slice_get}
 use Rattle.std.specs.Option.{ForSome}
 use Rattle.ec_device.specs.declared.slave_type.Face.{Face}
 use Rattle.ec_device.specs.declared.slave_type.Mailbox.{Mailbox}
@@ -69,13 +69,18 @@ pub record ExchangesOnce (k : SlaveKind) (s : Shown) : Type 0 where
   pub outputs : names_twice (assigned_entries k.outputs (exchanged_of first_output_index k.outputs s.outputs)) ≡ false
   pub inputs : names_twice (assigned_entries k.inputs (exchanged_of first_input_index k.inputs s.inputs)) ≡ false
 
+-- if it has a mailbox, it says by CoE which PDOs of a direction it exchanges, unless it has none
+pub record SaysExchanged (k : SlaveKind) (s : Shown) : Type 0 where
+  pub outputs : (m : Mailbox) → k.mailbox ≡ Some m → k.outputs ≢ [] → is_some s.outputs ≡ true
+  pub inputs : (m : Mailbox) → k.mailbox ≡ Some m → k.inputs ≢ [] → is_some s.inputs ≡ true
+
 -- It is found as its type, and a table can say all of it if it exchanges no entry twice. (Its mailboxes lie in the RAM, and its outputs are no
 -- pins, as in each table that has a plan.)
 abbrev pub FullTypesAreFound : Type 0
 FullTypesAreFound =
     (c : Contents) (place : ℕ) (row : SlaveRow) (k : SlaveKind) (face : Face) (s : Shown) → IsSlaveOf c place row k → FitsKind k → k.face ≡ Some face → k.hardware ≡ None
     → ForSome k.mailbox IsUsable → are_pins k.out_start ≡ false → ShowsType k s
-    → (kind_of s ≡ as_hardware k) × (ExchangesOnce k s → unsaid_of s ≡ None)
+    → (kind_of s ≡ as_hardware k) × (ExchangesOnce k s → SaysExchanged k s → unsaid_of s ≡ [])
 
 -- It exchanges none twice if it exchanges what its row assigns: so it is behind a start-up.
 abbrev pub RowsExchangeOnce : Type 0

@@ -1,14 +1,15 @@
 //! What differs between the slaves that were found and those of a table.
 ghost use Rattle.std.specs.Prelude.{◌≡◌, ◌<◌, length, IfOk};
 ghost use Rattle.ec_device.specs.Hardware.{takes_any_revision};
-ghost use Rattle.ec_found.specs.Differing.{agrees, differ, differs, is_none, is_same, started};
+ghost use Rattle.std.specs.List.{list_any};
+ghost use Rattle.ec_device.specs.Objects.{pdo_at};
+ghost use Rattle.ec_found.specs.Differing.{agrees, assigns, differ, differs, is_none, is_same, same_pdo, same_pdos, started, stays};
 
-use crate::assigned::entries_of;
-use crate::found::Found;
+use crate::found::{Found, Unsaid};
 use crate::same::have_same_entries;
 use ec_coe::find_pdo;
-use ec_device::{Device, Pdo, SlaveType};
-use ec_table::{SlaveRow, Table};
+use ec_device::{Device, FIRST_INPUT_INDEX, Pdo, SlaveType};
+use ec_table::{Direction, SlaveRow, Table};
 use std::alloc::{AllocError, Global};
 use std::fmt::Write as _;
 
@@ -25,6 +26,8 @@ pub struct Differences {
     pub outputs: bool,
     /// The input PDOs.
     pub inputs: bool,
+    /// Whether a table can't say all of the slave that was found, and a start-up doesn't change that.
+    pub unsaid: bool,
 }
 
 impl Differences {
@@ -32,38 +35,28 @@ impl Differences {
     pub fn is_none(&self) -> bool
         ensures { result ≡ is_none self.now }
     {
-        !(self.device || self.revision || self.serial || self.outputs || self.inputs)
+        !(self.device || self.revision || self.serial || self.outputs || self.inputs || self.unsaid)
     }
 }
 
 /// What differs between a slave of a table, which has a type and a row, and the one that was found in its place.
-pub fn differs(
-    alloc: Global,
-    kind: &SlaveType,
-    row: &SlaveRow,
-    found: &Found,
-) -> Result<Differences, AllocError>
-    ensures { IfOk result (λ d. d ≡ differs kind.now row.now found.now) }
+pub fn differs(kind: &SlaveType, row: &SlaveRow, found: &Found) -> Differences
+    ensures { result ≡ differs kind.now row.now found.now }
 {
     let (wanted, seen) = (kind.device(), found.kind.device());
     let (outputs, inputs) = (row.outputs.as_slice(), row.inputs.as_slice());
     let outputs_then = started(kind, kind.outputs(), outputs, found.outputs.as_slice());
     let inputs_then = started(kind, kind.inputs(), inputs, found.inputs.as_slice());
-    Ok(Differences {
+    let both_outputs = (kind.outputs(), found.kind.outputs());
+    let both_inputs = (kind.inputs(), found.kind.inputs());
+    Differences {
         device: wanted.vendor != seen.vendor || wanted.product != seen.product,
         revision: !takes_any_revision(kind) && wanted.revision != seen.revision,
         serial: row.serial != 0 && row.serial != found.serial,
-        outputs: differ(
-            alloc,
-            (kind.outputs(), found.kind.outputs()),
-            (outputs, outputs_then),
-        )?,
-        inputs: differ(
-            alloc,
-            (kind.inputs(), found.kind.inputs()),
-            (inputs, inputs_then),
-        )?,
-    })
+        outputs: differ(both_outputs, (outputs, outputs_then)),
+        inputs: differ(both_inputs, (inputs, inputs_then)),
+        unsaid: some_stays(kind, found.unsaid.as_slice()),
+    }
 }
 
 /// What a slave exchanges in a direction once it was started up by a row: what the row assigns, if the type has PDOs that can be
@@ -71,10 +64,47 @@ pub fn differs(
 fn started<'a>(kind: &SlaveType, pdos: &[Pdo], assigned: &'a [u16], found: &'a [u16]) -> &'a [u16]
     ensures { result.now ≡ started kind.now pdos.now assigned.now found.now }
 {
-    if kind.is_assignable() && !pdos.is_empty() {
-        assigned
-    } else {
-        found
+    if assigns(kind, pdos) { assigned } else { found }
+}
+
+/// Whether a start-up assigns the PDOs of a direction, of which a type has these.
+fn assigns(kind: &SlaveType, pdos: &[Pdo]) -> bool
+    ensures { result ≡ assigns kind.now pdos.now }
+{
+    kind.is_assignable() && !pdos.is_empty()
+}
+
+/// Whether something that a table can't say of a slave still is so once it was started up as a slave of a type.
+fn some_stays(kind: &SlaveType, things: &[Unsaid]) -> bool
+    ensures { result ≡ list_any (stays kind.now) things.now }
+{
+    for unsaid in things {
+        if stays(kind, *unsaid) {
+            return true;
+        }
+    }
+    false
+}
+
+/// Whether a thing still is so then: a PDO that is left out isn't exchanged, if the start-up assigns others.
+fn stays(kind: &SlaveType, unsaid: Unsaid) -> bool
+    ensures { result ≡ stays kind.now unsaid }
+{
+    match unsaid {
+        Unsaid::Pdos(Direction::Out) => !assigns(kind, kind.outputs()),
+        Unsaid::Pdos(Direction::In) => !assigns(kind, kind.inputs()),
+        Unsaid::Repeats(index) => {
+            if index < FIRST_INPUT_INDEX {
+                !assigns(kind, kind.outputs())
+            } else {
+                !assigns(kind, kind.inputs())
+            }
+        }
+        Unsaid::Mailbox
+        | Unsaid::Managers
+        | Unsaid::Spread(_)
+        | Unsaid::Silent(_)
+        | Unsaid::Size(_) => true,
     }
 }
 
@@ -87,20 +117,38 @@ fn takes_any_revision(kind: &SlaveType) -> bool
     }
 }
 
-/// Whether two slaves exchange other PDOs in a direction, or others of their entries.
-fn differ(
-    alloc: Global,
-    pdos: (&[Pdo], &[Pdo]),
-    assigned: (&[u16], &[u16]),
-) -> Result<bool, AllocError>
-    ensures { IfOk result (λ d. d ≡ differ (pdos.entry.0.now, pdos.entry.1.now) (assigned.entry.0.now, assigned.entry.1.now)) }
+/// Whether two slaves exchange other PDOs in a direction, or one with other entries.
+fn differ(pdos: (&[Pdo], &[Pdo]), assigned: (&[u16], &[u16])) -> bool
+    ensures { result ≡ differ (pdos.entry.0.now, pdos.entry.1.now) (assigned.entry.0.now, assigned.entry.1.now) }
 {
-    let one = entries_of(alloc, pdos.0, assigned.0)?;
-    let other = entries_of(alloc, pdos.1, assigned.1)?;
-    Ok(assigned.0 != assigned.1 || !have_same_entries(one.as_slice(), other.as_slice()))
+    assigned.0 != assigned.1 || !have_same_pdos(pdos.0, pdos.1, assigned.0)
 }
 
-/// Whether a table has the slaves that were found and no others: nothing differs.
+/// Whether the PDOs with these indices have the same entries in two slaves, one by one.
+fn have_same_pdos(wanted: &[Pdo], seen: &[Pdo], indices: &[u16]) -> bool
+    ensures { result ≡ same_pdos (wanted.now, seen.now) indices.now }
+{
+    for index in indices {
+        if !has_same_pdo(wanted, seen, *index) {
+            return false;
+        }
+    }
+    true
+}
+
+/// Whether two slaves have the PDO with an index, with the same entries.
+fn has_same_pdo(wanted: &[Pdo], seen: &[Pdo], index: u16) -> bool
+    ensures { result ≡ same_pdo (pdo_at wanted.now index) (pdo_at seen.now index) }
+{
+    match (find_pdo(wanted, index), find_pdo(seen, index)) {
+        (Some(one), Some(other)) => {
+            have_same_entries(one.entries.as_slice(), other.entries.as_slice())
+        }
+        _ => false,
+    }
+}
+
+/// Whether a table has the slaves that were found and no others: nothing differs. The error says that memory ran out.
 #[tactic(auto, using(crate::proofs::SameSlaves::same_next))]
 pub fn agrees(alloc: Global, table: &Table, found: &[Found]) -> Result<bool, AllocError>
     ensures { IfOk result (λ same. same ≡ agrees table.now found.now) }
@@ -123,11 +171,11 @@ fn is_same(alloc: Global, table: &Table, place: usize, found: &Found) -> Result<
     ensures { IfOk result (λ same. same ≡ is_same table.now place found.now) }
 {
     let kind = table.kind_of(alloc, place)?;
-    Ok(differs(alloc, &kind, &table.slaves()[place], found)?.is_none())
+    Ok(differs(&kind, &table.slaves()[place], found).is_none())
 }
 
 /// What differs between the slaves that were found and a table, a line each; empty if nothing does. A line has the place of the slave,
-/// its name in the table, and what is there and what the table has.
+/// its name in the table, and what is there and what the table has, or what no table can say. The error says that memory ran out.
 pub fn differences_text(
     alloc: Global,
     table: &Table,
@@ -139,7 +187,7 @@ pub fn differences_text(
         match found.get(place) {
             Some(one) => {
                 let kind = table.kind_of(alloc, place)?;
-                let differences = differs(alloc, &kind, row, one)?;
+                let differences = differs(&kind, row, one);
                 let pair = Pair {
                     place,
                     row,
@@ -195,6 +243,12 @@ impl Pair<'_> {
         }
         if differences.inputs {
             self.write_pdos(text, self.inputs())?;
+        }
+        for unsaid in self.found.unsaid.as_slice() {
+            if stays(self.kind, *unsaid) {
+                self.begin(text)?;
+                writeln!(text, "{unsaid}")?;
+            }
         }
         Ok(())
     }

@@ -2,16 +2,17 @@
 ghost use Rattle.std.specs.Prelude.{◌≡◌, IsTrue, is_some};
 ghost use Rattle.ec_device.specs.Hardware.{IsHardware};
 ghost use Rattle.ec_scan.specs.Showing.{usable};
-ghost use Rattle.ec_found.specs.Founds.{areas_of, areas_shown, hardware_with, in_used, is_fixed, is_hardware, manager_at, out_used, process_manager, unused, usual_areas};
+ghost use Rattle.ec_found.specs.Founds.{areas_of, areas_shown, hardware_with, in_used, is_fixed, is_hardware, manager_at, manager_of, out_used, process_manager, unused, usual_areas};
 
 use crate::reading::{GENERAL, MANAGERS, UsedManager, byte_in, category_in, manager_for, words_in};
 use ec_device::{Hardware, LAST_MANAGER, MAX_FMMUS, Mailbox, PINS, PINS_BYTES, ProcessManager};
 use ec_scan::Shown;
+use ec_table::Direction;
 
 /// What the SII's sync managers are used for.
-const OUTPUTS: u8 = 3;
+pub(crate) const OUTPUTS: u8 = 3;
 
-const INPUTS: u8 = 4;
+pub(crate) const INPUTS: u8 = 4;
 
 /// The bit of the CoE details that says that the PDO assignment can be written: bit 2 of byte 5 of the general category.
 const CAN_ASSIGN: u8 = 1 << 2;
@@ -52,10 +53,8 @@ impl Areas {
     fn shown(shown: &Shown) -> Areas
         ensures { result ≡ areas_shown shown.now }
     {
-        let words = words_in(shown.categories.as_slice(), MANAGERS);
-        let (outputs, inputs) = (manager_for(words, OUTPUTS), manager_for(words, INPUTS));
-        let outs = out_used(outputs, inputs);
-        let ins = in_used(outputs, inputs);
+        let outs = manager_of(Direction::Out, shown);
+        let ins = manager_of(Direction::In, shown);
         Areas {
             out_start: outs.start,
             in_start: ins.start,
@@ -73,6 +72,18 @@ impl Areas {
             hardware: hardware_of(outs, ins, true, self.hardware.is_fixed),
             ..self
         }
+    }
+}
+
+/// The sync manager of a direction, as a slave shows it.
+pub(crate) fn manager_of(direction: Direction, shown: &Shown) -> UsedManager
+    ensures { result ≡ manager_of direction shown.now }
+{
+    let words = words_in(shown.categories.as_slice(), MANAGERS);
+    let (outputs, inputs) = (manager_for(words, OUTPUTS), manager_for(words, INPUTS));
+    match direction {
+        Direction::Out => out_used(outputs, inputs),
+        Direction::In => in_used(outputs, inputs),
     }
 }
 
@@ -109,6 +120,7 @@ fn manager_at(start: u16, number: u8, control: u8) -> UsedManager
     UsedManager {
         number,
         start,
+        long: 0,
         control,
     }
 }

@@ -5,43 +5,51 @@ ghost use Rattle.std.specs.Option.{option_map};
 ghost use Rattle.ec_device.specs.Objects.{assigned_entries, entries_at};
 ghost use Rattle.ec_device.specs.Types.{ArePdos, first_input_index};
 ghost use Rattle.ec_link.specs.Entries.{is_named, names_twice};
-ghost use Rattle.ec_found.specs.Founds.{assigned_of, exchanged_of, has, has_index, indices, left_out, listed, together};
+ghost use Rattle.ec_found.specs.Founds.{assigned_of, exchanged_of, front, has, has_index, indices, left_out, listed, together};
 
-use crate::mapped::{has_index, kept, push_copy};
+use crate::mapped::{has_index, kept, push_copy, takes};
 use ec_coe::find_pdo;
 use ec_device::{Entry, Pdo};
 use ec_listed::Listed;
 use std::alloc::{AllocError, Global};
 
-/// The PDOs that a type lists: all that are there, if a table says which of them a slave exchanges, else those that it can assign together.
+/// The PDOs that a type lists, of all that a slave has: those that a table takes, if it says which of them a slave exchanges, else those in
+/// front of the first that is left out.
 pub(crate) fn listed(
     alloc: Global,
     first: u16,
     is_assignable: bool,
-    pdos: Listed<Pdo>,
+    all: &[Pdo],
 ) -> Result<Listed<Pdo>, AllocError>
-    requires { ArePdos first pdos }
-    ensures value { IfOk result (λ ps. ps ≡ listed is_assignable pdos) }
+    requires { first ≤ first_input_index }
+    ensures value { IfOk result (λ ps. ps ≡ listed is_assignable first all.now) }
     ensures limits { IfOk result (ArePdos first) }
 {
     if is_assignable {
-        return Ok(pdos);
+        kept(alloc, first, all)
+    } else {
+        front(alloc, first, all)
     }
-    let all = all_indices(alloc, pdos.as_slice())?;
-    let left = together(alloc, pdos.as_slice(), all.as_slice())?;
-    let found = with_indices(alloc, pdos.as_slice(), left.as_slice())?;
-    Ok(found)
 }
 
-/// Copies of the PDOs with these indices.
-fn with_indices(alloc: Global, pdos: &[Pdo], indices: &[u16]) -> Result<Listed<Pdo>, AllocError>
-    ensures { IfOk result (λ ps. ps ≡ filter (λ p. has indices.now p.index) pdos.now) }
+/// The PDOs in front of the first that a table doesn't take, or can't assign beside those before it.
+#[tactic(auto, using(crate::proofs::KeptPdos::limits_push, crate::proofs::Together::front_taken, crate::proofs::Together::front_refused, crate::proofs::Together::front_repeated))]
+fn front(alloc: Global, first: u16, all: &[Pdo]) -> Result<Listed<Pdo>, AllocError>
+    requires { first ≤ first_input_index }
+    ensures value { IfOk result (λ ps. ps ≡ front first all.now) }
+    ensures limits { IfOk result (ArePdos first) }
 {
     let mut found = Listed::new(alloc);
-    for pdo in pdos {
-        if has(indices, pdo.index) {
-            push_copy(alloc, &mut found, pdo)?;
+    let mut indices = Listed::new(alloc);
+    for pdo in all {
+        if !takes(first, found.as_slice(), pdo) {
+            return Ok(found);
         }
+        if is_repeated(alloc, all, indices.as_slice(), pdo.index)? {
+            return Ok(found);
+        }
+        push_copy(alloc, &mut found, pdo)?;
+        indices.push(pdo.index)?;
     }
     Ok(found)
 }
@@ -159,11 +167,7 @@ fn is_repeated(alloc: Global, pdos: &[Pdo], before: &[u16], index: u16) -> Resul
 }
 
 /// The entries of the PDOs with these indices, one after another.
-pub(crate) fn entries_of(
-    alloc: Global,
-    pdos: &[Pdo],
-    indices: &[u16],
-) -> Result<Listed<Entry>, AllocError>
+fn entries_of(alloc: Global, pdos: &[Pdo], indices: &[u16]) -> Result<Listed<Entry>, AllocError>
     ensures { IfOk result (λ es. es ≡ assigned_entries pdos.now indices.now) }
 {
     let mut found = Listed::new(alloc);

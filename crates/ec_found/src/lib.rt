@@ -18,6 +18,5 @@ mod text;
 pub use crate::against::{Differences, agrees, differences_text, differs};
 pub use crate::error::FoundError;
 pub use crate::found::{Found, Unsaid, found_of};
-pub use crate::names::Word;
 pub use crate::read_back::{as_found, printed};
 pub use crate::text::{table_text, unsaid_text};

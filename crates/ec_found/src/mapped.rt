@@ -1,8 +1,8 @@
 //! The PDOs of a direction: those of the SII, and those that CoE has otherwise or besides.
-ghost use Rattle.std.specs.Prelude.{◌≡◌, ◌≤◌, ◌++◌, ◌∷◌, [], filter, not, IfOk, OnOk};
+ghost use Rattle.std.specs.Prelude.{◌≡◌, ◌≤◌, ◌++◌, ◌∷◌, [], IfOk, OnOk};
 ghost use Rattle.std.specs.Option.{option_map};
 ghost use Rattle.ec_device.specs.Types.{ArePdos, first_input_index};
-ghost use Rattle.ec_found.specs.Founds.{exchanged_first, has_index, is_pdo, joined, kept, merged, takes};
+ghost use Rattle.ec_found.specs.Founds.{exchanged_first, has_index, is_pdo, joined, kept, merged, others, takes};
 
 use ec_coe::find_pdo;
 use ec_device::{MAX_PDOS, Pdo, copied_pdos};
@@ -50,22 +50,23 @@ fn joined(alloc: Global, shown: &[Pdo], said: &[Pdo]) -> Result<Listed<Pdo>, All
 fn exchanged_first(alloc: Global, shown: &[Pdo], said: &[Pdo]) -> Result<Listed<Pdo>, AllocError>
     ensures { IfOk result (λ ps. ps ≡ exchanged_first shown.now said.now) }
 {
-    let mut found = copied_pdos(alloc, said)?;
+    let mut found = Listed::new(alloc);
+    push_others(alloc, &mut found, said, &[])?;
     push_others(alloc, &mut found, shown, said)?;
     Ok(found)
 }
 
-/// Puts copies of PDOs behind others, but for those whose index `known` has.
+/// Puts copies of PDOs behind others, but for those whose index `known` has, and for empty slots.
 fn push_others(
     alloc: Global,
     found: &mut Listed<Pdo>,
     pdos: &[Pdo],
     known: &[Pdo],
 ) -> Result<(), AllocError>
-    ensures { OnOk result (found.new ≡ found.old ++ filter (λ p. not (has_index known.now p.index)) pdos.now) }
+    ensures { OnOk result (found.new ≡ found.old ++ others pdos.now known.now) }
 {
     for pdo in pdos {
-        if !has_index(known, pdo.index) {
+        if pdo.index != 0 && !has_index(known, pdo.index) {
             push_copy(alloc, found, pdo)?;
         }
     }
@@ -89,7 +90,7 @@ pub(crate) fn kept(alloc: Global, first: u16, pdos: &[Pdo]) -> Result<Listed<Pdo
 }
 
 /// Whether a table takes a PDO behind those found.
-fn takes(first: u16, found: &[Pdo], pdo: &Pdo) -> bool
+pub(crate) fn takes(first: u16, found: &[Pdo], pdo: &Pdo) -> bool
     requires { first ≤ first_input_index }
     ensures { result ≡ takes first found.now pdo.now }
 {

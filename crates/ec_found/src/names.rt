@@ -9,7 +9,7 @@ use std::fmt::Write as _;
 const MOST: usize = 32;
 
 /// A name, or a first part of one: letters, digits and `_`.
-pub type Word = ArrayString<32>;
+pub(crate) type Word = ArrayString<32>;
 
 /// The letters of a string of an SII by its number, counted from 1, with `_` for what a name can't have. They are cut to `most`, and no `_`
 /// stands at either end. Empty if there is no such string.

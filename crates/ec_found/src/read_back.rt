@@ -1,5 +1,5 @@
 //! The text of a table, read back before it is given out.
-ghost use Rattle.std.specs.Prelude.{◌≡◌, ◌<◌, length, true, IfOk, IfNone};
+ghost use Rattle.std.specs.Prelude.{◌≡◌, ◌↔◌, ◌<◌, length, IfOk, IfNone, IsTrue};
 ghost use Rattle.std.specs.String.{string_bytes};
 ghost use Rattle.ec_found.specs.Stating.{HasFound, IsRowOf, StatesFound};
 
@@ -52,7 +52,7 @@ fn first_other(alloc: Global, table: &Table, found: &[Found]) -> Result<Option<u
 }
 
 /// Whether a table has a slave as it was found. The error says that memory ran out.
-#[tactic(auto, using(crate::proofs::Stated::a_row))]
+#[tactic(auto, using(crate::proofs::Stated::a_row, crate::proofs::Stated::of_row))]
 pub fn as_found(
     alloc: Global,
     table: &Table,
@@ -60,7 +60,7 @@ pub fn as_found(
     found: &Found,
 ) -> Result<bool, AllocError>
     requires { place < length table.now.slaves }
-    ensures { IfOk result (λ same. same ≡ true → IsRowOf table.now place found.now) }
+    ensures { IfOk result (λ same. IsTrue same ↔ IsRowOf table.now place found.now) }
 {
     let kind = table.kind_of(alloc, place)?;
     Ok(are_same(&kind, &found.kind) && has_rest(&table.slaves()[place], found))
@@ -68,7 +68,7 @@ pub fn as_found(
 
 /// Whether a row has the serial number and the assignments of a slave as it was found.
 fn has_rest(row: &SlaveRow, found: &Found) -> bool
-    ensures { result ≡ true → (row.now.serial ≡ found.now.serial) × (row.now.outputs ≡ found.now.outputs) × (row.now.inputs ≡ found.now.inputs) }
+    ensures { IsTrue result ↔ ((row.now.serial ≡ found.now.serial) × (row.now.outputs ≡ found.now.outputs) × (row.now.inputs ≡ found.now.inputs)) }
 {
     row.serial == found.serial
         && row.outputs.as_slice() == found.outputs.as_slice()

@@ -1,8 +1,8 @@
 //! What stands in the categories of an SII (ETG.1000.6, "Slave information interface area"): any words are read, whatever they are.
-ghost use Rattle.std.specs.Prelude.{◌≡◌, ◌<◌, ◌≤◌, ◌/◌, ◌%◌, ◌∷◌, [], drop, length, take, unwrap_or, IfNone, IfOk, IfSome};
+ghost use Rattle.std.specs.Prelude.{◌≡◌, ◌<◌, ◌≤◌, ◌/◌, ◌%◌, ◌∷◌, [], drop, false, length, take, unwrap_or, IfNone, IfOk, IfSome};
 ghost use Rattle.std.specs.Option.{option_copied};
 ghost use Rattle.ec_sii.specs.Reading.{category_found, pdos_read};
-ghost use Rattle.ec_found.specs.Founds.{byte_in, entries_of, managers_in, pdos_in, plain_entries, plain_entry, used_from};
+ghost use Rattle.ec_found.specs.Founds.{byte_in, entries_of, has_second, has_stray, managers_in, pdos_in, plain_entries, plain_entry, used_from};
 
 use ec_device::{Entry, Pdo};
 use ec_listed::Listed;
@@ -35,6 +35,8 @@ pub(crate) struct UsedManager {
     pub number: u8,
     /// Where its bytes begin.
     pub start: u16,
+    /// How many bytes it has as delivered; 0 says nothing.
+    pub long: u16,
     /// Its control byte.
     pub control: u8,
 }
@@ -101,6 +103,7 @@ pub(crate) fn manager_for(words: &[u16], usage: u8) -> Option<UsedManager>
             return Some(UsedManager {
                 number: number as u8,
                 start: rest[0],
+                long: rest[1],
                 control: low(rest[2]),
             });
         }
@@ -110,11 +113,38 @@ pub(crate) fn manager_for(words: &[u16], usage: u8) -> Option<UsedManager>
     None
 }
 
-/// The PDOs in the words of a category, in order: all, or those that have a sync manager as delivered. An entry without bits is left
+/// Whether one more sync manager with a use, behind the first, has a length.
+#[tactic(auto, using(crate::proofs::FirstWords::second_none, crate::proofs::FirstWords::second_next))]
+pub(crate) fn has_second(words: &[u16], usage: u8) -> bool
+    ensures { result ≡ has_second false usage (managers_in words.now) }
+{
+    let mut rest = words;
+    let mut is_behind = false;
+    for _ in 0..words.len() {
+        if rest.len() < RECORD {
+            return false;
+        }
+        let is_used = high(rest[3]) == usage;
+        if is_behind && is_used && rest[1] != 0 {
+            return true;
+        }
+        is_behind = is_behind || is_used;
+        let next = behind(rest, RECORD);
+        rest = next;
+    }
+    false
+}
+
+/// The PDOs in the words of a category, in order: all, or those that a sync manager moves as delivered. An entry without bits is left
 /// out, and a gap has no subindex.
 #[tactic(auto, using(crate::proofs::FirstWords::pdos_first, crate::proofs::FirstWords::pdos_other, crate::proofs::FirstWords::pdos_end))]
-pub(crate) fn pdos_in(alloc: Global, all: bool, words: &[u16]) -> Result<Listed<Pdo>, AllocError>
-    ensures { IfOk result (λ ps. ps ≡ pdos_in all words.now) }
+pub(crate) fn pdos_in(
+    alloc: Global,
+    all: bool,
+    manager: u8,
+    words: &[u16],
+) -> Result<Listed<Pdo>, AllocError>
+    ensures { IfOk result (λ ps. ps ≡ pdos_in all manager words.now) }
 {
     let mut found = Listed::new(alloc);
     let mut rest = words;
@@ -123,7 +153,7 @@ pub(crate) fn pdos_in(alloc: Global, all: bool, words: &[u16]) -> Result<Listed<
         let Some(pdo) = PdoWords::first(rest) else {
             return Ok(found);
         };
-        if all || usize::from(pdo.manager) < MAX_MANAGERS {
+        if all || pdo.manager == manager {
             let entries = entries_in(alloc, pdo.entries)?;
             found.push(Pdo {
                 index: pdo.index,
@@ -133,6 +163,24 @@ pub(crate) fn pdos_in(alloc: Global, all: bool, words: &[u16]) -> Result<Listed<
         rest = pdo.behind;
     }
     Ok(found)
+}
+
+/// Whether another sync manager than this moves a PDO in the words of a category as delivered.
+#[tactic(auto, using(crate::proofs::FirstWords::stray_first, crate::proofs::FirstWords::stray_end))]
+pub(crate) fn has_stray(words: &[u16], manager: u8) -> bool
+    ensures { result ≡ has_stray manager words.now }
+{
+    let mut rest = words;
+    for _ in 0..words.len() {
+        let Some(pdo) = PdoWords::first(rest) else {
+            return false;
+        };
+        if usize::from(pdo.manager) < MAX_MANAGERS && pdo.manager != manager {
+            return true;
+        }
+        rest = pdo.behind;
+    }
+    false
 }
 
 /// The words of a PDO.

@@ -5,9 +5,10 @@ use crate::reading::{
     GENERAL, INPUT_PDOS, OUTPUT_PDOS, PdoWords, STRINGS, byte_in, entry_name, words_in,
 };
 use crate::same::are_same;
-use ec_coe::find_pdo;
+use ec_coe::{INPUT_ASSIGNMENT, OUTPUT_ASSIGNMENT, find_pdo};
 use ec_device::{Entry, Pdo, ProcessManager, SlaveType};
 use ec_scan::Shown;
+use ec_table::Direction;
 use std::alloc::{AllocError, Global};
 use std::fmt;
 use std::fmt::Write as _;
@@ -20,7 +21,7 @@ const NAME: usize = 3;
 
 /// What to do about what a table can't say.
 const UNSAID_ADVICE: &str =
-    "To do: try a start-up by this table. A slave that needs what is left out refuses it.\n";
+    "To do: try a start-up by this table, unless a line says that it fails. What is left out isn't moved; a slave that needs it and has firmware refuses it.\n";
 
 /// A direction: its words in a table, and the category of its PDOs.
 #[derive(Clone, Copy)]
@@ -143,14 +144,14 @@ pub fn table_text(alloc: Global, shown: &[Shown], found: &[Found]) -> Result<Str
     Ok(text)
 }
 
-/// What a table can't say of these slaves, for people: a line for each of which it can't say all, by its place and its name in the table,
-/// and what to do. Empty if there is none. The error says that memory ran out.
+/// What a table can't say of these slaves, for people: a line for each thing, with the place of the slave and its name in the table, and
+/// what to do. Empty if there is none. The error says that memory ran out.
 pub fn unsaid_text(alloc: Global, shown: &[Shown], found: &[Found]) -> Result<String, AllocError> {
     let rows = names_of(alloc, shown, found)?;
     let mut text = String::new(alloc);
     for (place, (one, row)) in found.iter().zip(rows.as_slice()).enumerate() {
-        if let Some(unsaid) = one.unsaid {
-            let name = row.name.as_str();
+        let name = row.name.as_str();
+        for unsaid in one.unsaid.as_slice() {
             writeln!(text, "slave {place} `{name}`: {unsaid}")?;
         }
     }
@@ -174,7 +175,7 @@ fn row_at<'a>(
     })
 }
 
-/// The names of the slaves. Slaves of one type that are called alike share its name.
+/// The names of the slaves. Those of one type share its name, which is the first one's.
 fn names_of(alloc: Global, shown: &[Shown], found: &[Found]) -> Result<Vec<RowNames>, AllocError> {
     let mut rows: Vec<RowNames> = Vec::new(alloc);
     let mut types = Names::new(alloc);
@@ -322,10 +323,10 @@ fn write_pdo(text: &mut String, row: &Row<'_>, way: Way, pdo: &Pdo) -> Result<()
     text.push_str("\n")
 }
 
-/// Adds a slave, and as a comment what the table can't say of it.
+/// Adds a slave, and as comments what the table can't say of it.
 fn write_slave(text: &mut String, row: &Row<'_>) -> Result<(), AllocError> {
     text.push_str("\n")?;
-    if let Some(unsaid) = row.found.unsaid {
+    for unsaid in row.found.unsaid.as_slice() {
         writeln!(text, "# {unsaid}")?;
     }
     writeln!(text, "[[slave]]\nname = \"{}\"", row.names.name.as_str())?;
@@ -423,16 +424,62 @@ impl fmt::Display for Unsaid {
             Unsaid::Managers => f.write_str(
                 "its sync managers are left out: `out_manager` and `in_manager` are two of 0 to 3 in the usual modes; beside a mailbox 2 and 3",
             ),
-            Unsaid::Outputs => f.write_str(
-                "outputs of it are left out: `rxpdo` takes up to 16 PDOs, 0x1600 to 0x17FF once each, with up to 64 entries of up to 64 bits",
-            ),
-            Unsaid::Inputs => f.write_str(
-                "inputs of it are left out: `txpdo` takes up to 16 PDOs, 0x1A00 to 0x1BFF once each, with up to 64 entries of up to 64 bits",
-            ),
+            Unsaid::Spread(direction) => {
+                let what = data_of(direction);
+                write!(
+                    f,
+                    "{what} behind a second sync manager are left out: a table has one for each direction"
+                )
+            }
+            Unsaid::Silent(direction) => {
+                let (what, object) = (data_of(direction), object_of(direction));
+                write!(
+                    f,
+                    "it takes CoE and has no object 0x{object:04X} for its {what}: a start-up by this table ends with `30 Abort`"
+                )
+            }
+            Unsaid::Pdos(direction) => {
+                let (what, takes) = (data_of(direction), taken_in(direction));
+                write!(
+                    f,
+                    "{what} of it are left out: {takes} once each, with up to 64 entries of 1 to 64 bits, and gaps without a subindex; where the assignment can't be written, none behind one that is left out"
+                )
+            }
+            Unsaid::Size(direction) => {
+                let what = data_of(direction);
+                write!(
+                    f,
+                    "its {what} may lie elsewhere: their sync manager has another length than their PDOs"
+                )
+            }
             Unsaid::Repeats(index) => write!(
                 f,
-                "its PDO 0x{index:04X} is left out: an entry of it is exchanged already, and a table has each entry once in a direction"
+                "its PDO 0x{index:04X} is left out, and those behind it where the assignment can't be written: an entry of it is exchanged already, and a table has each entry once in a direction"
             ),
         }
+    }
+}
+
+/// What the data of a direction are called.
+fn data_of(direction: Direction) -> &'static str {
+    match direction {
+        Direction::Out => "outputs",
+        Direction::In => "inputs",
+    }
+}
+
+/// The PDOs of a direction that a table takes.
+fn taken_in(direction: Direction) -> &'static str {
+    match direction {
+        Direction::Out => "`rxpdo` takes up to 16 PDOs, 0x1600 to 0x17FF",
+        Direction::In => "`txpdo` takes up to 16 PDOs, 0x1A00 to 0x1BFF",
+    }
+}
+
+/// The assignment object of a direction.
+fn object_of(direction: Direction) -> u16 {
+    match direction {
+        Direction::Out => OUTPUT_ASSIGNMENT,
+        Direction::In => INPUT_ASSIGNMENT,
     }
 }

@@ -1,5 +1,5 @@
 -- What a wire has received stays received.
-use Rattle.std.proofs.Common.{ℕ, ◌≡◌, ◌++◌, List, [], ◌∷◌, Result, Ok, Err, IfOk, refl, sym, ap, subst, ◌∙◌, arith}
+use Rattle.std.proofs.Common.{ℕ, ◌+◌, ◌≤◌, ◌≡◌, ◌++◌, List, [], ◌∷◌, Result, Ok, Err, IfOk, refl, sym, ap, subst, ◌∙◌, arith}
 use Rattle.std.proofs.lemmas.List.{append-nil, append_assoc, length-append}
 use Rattle.std.proofs.lemmas.List.Elements.{Contains-append_left, Contains-append_right}
 use Rattle.ec_start.specs.declared.action.Action.TheVariants.{CountSlaves}
@@ -49,9 +49,10 @@ come_last Nothing p = tt
 come_last (Number n) p = omega arith
 come_last (Payloads told) p = Contains-append_right told (p ∷ []) p (0, omega arith, refl)
 
-counted_now : (s t : LineState) (count : ℕ) → IsAnswered CountSlaves s t count → WasCounted t.wire count
+counted_now : (s t : LineState) (count : ℕ) → IsAnswered CountSlaves s t count → WasCounted 0 t count
 counted_now s t count h =
     let heard = h.heard in
+    let next = h.next in
     record {
       payload = heard.payload;
       number = s.number;
@@ -59,21 +60,30 @@ counted_now s t count h =
       came = subst (λ (r : Trace). HasCome r heard.payload) (sym heard.came.receives) (come_last heard.before.received heard.payload);
       answer = heard.answer;
       counted = heard.counted;
+      sent = omega (arith, next);
+      last = omega (arith, next);
     }
 
-pub counted_as : (s t : LineState) (n count : ℕ) → IsAnswered CountSlaves s t n → n ≡ count → WasCounted t.wire count
-counted_as s t n count h is = subst (WasCounted t.wire) is (counted_now s t n h)
+pub counted_as : (s t : LineState) (n count : ℕ) → IsAnswered CountSlaves s t n → n ≡ count → WasCounted 0 t count
+counted_as s t n count h is = subst (WasCounted 0 t) is (counted_now s t n h)
 
-still_counted : (v w : WireState) (count : ℕ) → WasCounted v count → Keeps v w → WasCounted w count
-still_counted v w count h k = record {
-  payload = h.payload;
-  number = h.number;
-  part = h.part;
-  came = subst (λ (r : Trace). HasCome r h.payload) (sym k.receives) (come_before v.received k.more h.payload h.came);
-  answer = h.answer;
-  counted = h.counted;
-}
+-- a frame more was sent at most
+still_counted : (s t : LineState) (count : ℕ) → WasCounted 0 s count → s.number ≤ t.number → t.number ≤ s.number + 1 → Keeps s.wire t.wire → WasCounted 1 t count
+still_counted s t count h forward one k =
+    let sent = h.sent in
+    let last = h.last in
+    record {
+      payload = h.payload;
+      number = h.number;
+      part = h.part;
+      came = subst (λ (r : Trace). HasCome r h.payload) (sym k.receives) (come_before s.wire.received k.more h.payload h.came);
+      answer = h.answer;
+      counted = h.counted;
+      sent = omega (arith, sent, forward);
+      last = omega (arith, last, one);
+    }
 
-pub if_still_counted : {A E : Type 0} (v w : WireState) (r : Result A E) (f : A → ℕ) → IfOk r (λ x. WasCounted v (f x)) → Keeps v w → IfOk r (λ x. WasCounted w (f x))
-if_still_counted v w (Ok x) f h k = still_counted v w (f x) h k
-if_still_counted v w (Err e) f h k = tt
+pub if_still_counted : {A E : Type 0} (s t : LineState) (r : Result A E) (f : A → ℕ) → IfOk r (λ x. WasCounted 0 s (f x))
+    → s.number ≤ t.number → t.number ≤ s.number + 1 → Keeps s.wire t.wire → IfOk r (λ x. WasCounted 1 t (f x))
+if_still_counted s t (Ok x) f h forward one k = still_counted s t (f x) h forward one k
+if_still_counted s t (Err e) f h forward one k = tt

@@ -1,5 +1,6 @@
 mod Harmless
 mod LineLemmas
 mod KeptLemmas
+mod WalkLemmas
 mod FoundWords
 mod Flags

@@ -71,10 +71,11 @@ pub heard_online : (w v : WireState) (number left : ℕ) (answer : List ℕ) (go
 heard_online w v number left answer got h c = record { sent = sent_none w v number got h.sent c; bound = h.bound; short = h.short }
 
 pub if_answered : (a : Action) (s t : LineState) (frame : List ℕ) (sent : WireState) (r : Result ℕ StartError)
-    → IsFrame frame (bare_payload (frame_of a s.number)) → Carries s.wire sent (frame ∷ []) [] → t.asked ≡ Some a → IfOk r (IsHeard a s.number t)
+    → IsFrame frame (bare_payload (frame_of a s.number)) → Carries s.wire sent (frame ∷ []) [] → t.asked ≡ Some a → t.number ≡ s.number + 1 → IfOk r (IsHeard a s.number t)
     → IfOk r (IsAnswered a s t)
-if_answered a s t frame sent (Ok counter) spelled carried asked heard = record { frame = frame; sent = sent; spelled = spelled; carried = carried; asked = asked; heard = heard }
-if_answered a s t frame sent (Err e) spelled carried asked heard = tt
+if_answered a s t frame sent (Ok counter) spelled carried asked next heard =
+    record { frame = frame; sent = sent; spelled = spelled; carried = carried; asked = asked; next = next; heard = heard }
+if_answered a s t frame sent (Err e) spelled carried asked next heard = tt
 
 -- ---- what is heard
 

@@ -1,5 +1,5 @@
 -- A wire over which a scan asks: what it has sent, and how many frames at most.
-use Rattle.std.specs.Prelude.{ℕ, ◌+◌, ◌*◌, ◌≡◌, ◌≤◌, List, [], ◌∷◌, length, Option, Some, All, Contains}
+use Rattle.std.specs.Prelude.{ℕ, ◌+◌, ◌*◌, ◌≡◌, ◌≤◌, ◌<◌, List, [], ◌∷◌, length, Option, Some, All, Contains}
 use Rattle.ec_start.specs.declared.action.Action.{Action}
 use Rattle.ec_start.specs.declared.action.Action.TheVariants.{CountSlaves}
 use Rattle.ec_frame.specs.Building.{bare_payload}
@@ -67,6 +67,7 @@ pub record IsAnswered (a : Action) (s t : LineState) (counter : ℕ) : Type 0 wh
   pub spelled : IsFrame frame (bare_payload (frame_of a s.number))
   pub carried : Carries s.wire sent (frame ∷ []) []
   pub asked : t.asked ≡ Some a
+  pub next : t.number ≡ s.number + 1
   pub heard : IsHeard a s.number t counter
 
 -- ---- how many slaves answered
@@ -82,11 +83,14 @@ HasCome Nothing payload = Unit {0}
 HasCome (Number told) payload = 1 ≤ told
 HasCome (Payloads told) payload = Contains told payload
 
--- A payload that came answers a frame which counts the slaves, with this working counter: so many have it passed.
-pub record WasCounted (wire : WireState) (count : ℕ) : Type 0 where
+-- A payload that came answers a frame which counts the slaves, with this working counter: so many have it passed. The line sent so many
+-- frames behind it at most. (A scan counts at its begin, too; the count that is meant is that at its end, since more frames follow the first.)
+pub record WasCounted (behind : ℕ) (l : LineState) (count : ℕ) : Type 0 where
   pub payload : List ℕ
   pub number : ℕ
   pub part : List ℕ
-  pub came : HasCome wire.received payload
+  pub came : HasCome l.wire.received payload
   pub answer : IsAnswerIn payload CountSlaves number part
   pub counted : answer.datagram.counter ≡ count
+  pub sent : number < l.number
+  pub last : l.number ≤ number + 1 + behind

@@ -1,5 +1,5 @@
 -- What slaves show of themselves, and how a scan reads it (ETG.1000.6, "Slave information interface area").
-use Rattle.std.specs.Prelude.{ℕ, ◌+◌, ◌==◌, ◌≡◌, ◌≤◌, ◌<◌, ◌^◌, ◌&&◌, not, List, map, Bool, false, nat_le, if◌then◌else◌, Option, Some, None}
+use Rattle.std.specs.Prelude.{ℕ, zero, suc, ◌+◌, ◌==◌, ◌≡◌, ◌≤◌, ◌<◌, ◌^◌, ◌&&◌, ◌||◌, ◌⊎◌, not, List, [], ◌∷◌, ◌++◌, map, Bool, true, false, nat_le, if◌then◌else◌, Option, Some, None}
 use Rattle.std.specs.List.{range_with_len}
 use Rattle.std.specs.Int.{bit_at}
 use Rattle.ec_device.specs.declared.slave_type.Mailbox.{Mailbox}
@@ -9,7 +9,16 @@ use Rattle.ec_regs.specs.Words.{sii_error}
 use Rattle.ec_sii.specs.Laws.{read_command}
 use Rattle.ec_sii.specs.Port.{Sii, sii_byte, written, stepped, last_address}
 use Rattle.ec_sii.specs.SiiImage.{word_at as word_of_image}
+use Rattle.ec_coe.specs.declared.abort_code.AbortCode.TheVariants.{NoObject}
+use Rattle.ec_coe.specs.declared.reply.Reply.TheVariants.{Aborted}
+use Rattle.ec_coe.specs.declared.value.ValueSize.TheVariants.{Four}
+use Rattle.ec_coe.specs.Messages.{message_read}
+use Rattle.ec_coe.specs.Replies.{free_reply_of}
+use Rattle.ec_coe.specs.Transfers.{abort_number}
+use Rattle.ec_start.specs.declared.action.Action.TheVariants.{AwaitWord}
 use Rattle.ec_start.specs.Verdicts.{word_at}
+use Rattle.ec_scan.specs.declared.shown.Shown.{Shown}
+use Rattle.ec_scan.specs.Lines.{LineState}
 use Rattle.ec_scan.specs.declared.shown.ShownMailbox.{ShownMailbox}
 
 -- ---- the SII
@@ -33,6 +42,47 @@ ReadsFindWords =
     (p : Sii) (address : ℕ) → p.busy ≡ false → address ≤ last_address p.image → address < 2 ^ 32
     → word_of_image p.image address < 2 ^ 16 → word_of_image p.image (address + 1) < 2 ^ 16
     → words_in (port_bytes (stepped (written p sii_control (read_command address)))) ≡ Some (word_of_image p.image address, word_of_image p.image (address + 1))
+
+-- The answer that came last is to a wait for these words, by the number that the action has of them, and shows them.
+pub record AreShown (slave which : ℕ) (words : Option (ℕ × ℕ)) (l : LineState) : Type 0 where
+  pub asked : l.asked ≡ Some (AwaitWord slave which)
+  pub words_are : words_in l.answer ≡ words
+
+-- ---- whole categories
+
+-- Words reach the end mark 0xFFFF: it stands where a category would begin. Each is its type, its length and so many words; first so many
+-- words are passed over.
+abbrev pub is_ended : (passed : ℕ) → List ℕ → Bool
+is_ended zero [] = false
+is_ended zero (number ∷ []) = number == 0xFFFF
+is_ended zero (number ∷ count ∷ words) = (number == 0xFFFF) || is_ended count words
+is_ended (suc passed) [] = false
+is_ended (suc passed) (word ∷ words) = is_ended passed words
+
+-- An SII of one kibibit has 64 words, and no categories behind them. Its size was read last: word 0x3E, the 27th of an action's two, has
+-- the kibibits less 1.
+abbrev pub HasNoCategories : ℕ → LineState → Type 0
+HasNoCategories slave l = (version : ℕ) × AreShown slave 27 (Some (0, version)) l
+
+-- So words are taken as the categories of a slave: they reach the end mark, or the SII says that there are none. Words that a fault cut are
+-- never taken, nor is their lack.
+abbrev pub AreWhole : ℕ → List ℕ → LineState → Type 0
+AreWhole slave words l = (is_ended 0 words ≡ true) ⊎ ((words ≡ []) × HasNoCategories slave l)
+
+-- a slave as it was found has them
+abbrev pub HasWholeSii : Shown → Type 0
+HasWholeSii s = (is_ended 0 s.categories ≡ true) ⊎ (s.categories ≡ [])
+
+-- A walk over words has come from one place to another: if the end mark is reached from there, whatever follows, it is from here.
+abbrev pub Leads : List ℕ → (from to : ℕ) → Type 0
+Leads words from to = (rest : List ℕ) → is_ended to (words ++ rest) ≡ true → is_ended from (words ++ rest) ≡ true
+
+-- ---- objects
+
+-- The answer that came last aborts the upload of subindex 0 of an object, since there is no object of this index (ETG.1000.6, "Abort SDO
+-- transfer"). A slave that aborts it by another code may have the object, and isn't taken as one without.
+abbrev pub LacksObject : ℕ → LineState → Type 0
+LacksObject index l = free_reply_of index 0 Four (message_read l.answer) ≡ Aborted (abort_number NoObject)
 
 -- ---- mailboxes
 

@@ -1,15 +1,20 @@
 //! What slaves say by CoE of the PDOs that they exchange (ETG.1000.6, "SDO services", "Object dictionary").
-ghost use Rattle.std.specs.Prelude.{◌≡◌, ◌<◌, true};
+ghost use Rattle.std.specs.Prelude.{◌≡◌, ◌<◌, ◌%◌, IfOk, IfSome, None, true};
+ghost use Rattle.ec_coe.specs.declared.value.ValueSize.TheVariants.{Four};
+ghost use Rattle.ec_coe.specs.Messages.{message_read};
+ghost use Rattle.ec_coe.specs.Objects.{entry_number};
+ghost use Rattle.ec_coe.specs.Replies.{free_reply_of};
 ghost use Rattle.ec_start.specs.Doable.{IsDoable};
 ghost use Rattle.ec_scan.specs.Scanning.{IsOfScan, is_upload};
-ghost use Rattle.ec_scan.specs.Showing.{IsUsable};
+ghost use Rattle.ec_scan.specs.Showing.{IsUsable, LacksObject};
 
 use crate::error::ScanError;
 use crate::line::{Line, MAX_POLLS};
 use byteorder::{ByteOrder, LittleEndian};
 use ec_al::State;
 use ec_coe::{
-    INPUT_ASSIGNMENT, OUTPUT_ASSIGNMENT, Reply, SdoValue, ValueSize, is_aside, read_free_reply,
+    AbortCode, INPUT_ASSIGNMENT, OUTPUT_ASSIGNMENT, Reply, SdoValue, ValueSize, is_aside,
+    read_free_reply,
 };
 use ec_device::{Entry, Mailbox, Pdo};
 use ec_listed::Listed;
@@ -18,7 +23,7 @@ use ec_start::{Action, ManagerRegister, SdoRequest, StartError, Transfer};
 use ec_wire::{Pace, Wire};
 use std::alloc::Global;
 
-/// The PDOs that a slave exchanges towards it and from it; none of a direction if it doesn't say so.
+/// The PDOs that a slave exchanges towards it and from it; none of a direction if it has no object that says so.
 #[derive(Drop)]
 pub(crate) struct Exchanged {
     pub outputs: Option<Listed<Pdo>>,
@@ -122,7 +127,7 @@ fn await_pre_op<W: Wire + Drop, P: Pace + Drop>(
     Err(line.too_slow())
 }
 
-/// Reads the PDOs that an assignment object has; none if the slave has no such object.
+/// Reads the PDOs that an assignment object has; none if the slave says that it has no such object.
 fn read_pdos<W: Wire + Drop, P: Pace + Drop>(
     alloc: Global,
     line: &mut Line<W, P>,
@@ -133,25 +138,22 @@ fn read_pdos<W: Wire + Drop, P: Pace + Drop>(
     requires usable { IsUsable asked.old.mailbox }
     ensures kept { IsUsable asked.new.mailbox }
     ensures same { asked.new.slave ≡ asked.old.slave }
+    ensures lacks { IfOk result (λ pdos. pdos ≡ None → LacksObject object line.new) }
 {
     let count = match upload(line, asked, object, 0)? {
-        Reply::Uploaded(value) => value.number,
-        Reply::Aborted(_) => return Ok(None),
-        _ => return Err(bad(asked)),
+        Reply::Aborted(code) if code == AbortCode::NoObject.number() => return Ok(None),
+        reply => number_in(asked, reply)?,
     };
     let mut pdos = Listed::new(alloc);
     for slot in 1..=low_byte(count) {
         let index = low_word(read_number(line, asked, object, slot)?);
-        // a slot that isn't used
-        if index != 0 {
-            let entries = read_entries(alloc, line, asked, index)?;
-            pdos.push(Pdo { index, entries })?;
-        }
+        let entries = read_entries(alloc, line, asked, index)?;
+        pdos.push(Pdo { index, entries })?;
     }
     Ok(Some(pdos))
 }
 
-/// Reads the mapping of a PDO.
+/// Reads the mapping of a PDO; none of an empty slot, whose index is 0.
 fn read_entries<W: Wire + Drop, P: Pace + Drop>(
     alloc: Global,
     line: &mut Line<W, P>,
@@ -163,25 +165,32 @@ fn read_entries<W: Wire + Drop, P: Pace + Drop>(
     ensures kept { IsUsable asked.new.mailbox }
     ensures same { asked.new.slave ≡ asked.old.slave }
 {
-    let count = read_number(line, asked, index, 0)?;
     let mut entries = Listed::new(alloc);
+    if index == 0 {
+        return Ok(entries);
+    }
+    let count = read_number(line, asked, index, 0)?;
     for slot in 1..=low_byte(count) {
         entries.push(entry_of(read_number(line, asked, index, slot)?))?;
     }
     Ok(entries)
 }
 
-/// The entry that a mapping states: the index in the high 16 bits, then the subindex, then the bits. A gap has no subindex.
-fn entry_of(number: u32) -> Entry {
-    let index = (number >> 16) as u16;
+/// The entry that a mapping states: the index in the high 16 bits, then the subindex, then the bits. A start-up reads the same number
+/// back, so a gap, whose index is 0, keeps its subindex too.
+fn entry_of(number: u32) -> Entry
+    ensures { entry_number result ≡ number }
+{
     Entry {
-        index,
-        subindex: if index == 0 { 0 } else { low_byte(number >> 8) },
+        index: (number >> 16) as u16,
+        subindex: low_byte(number >> 8),
         bits: low_byte(number),
     }
 }
 
-fn low_byte(number: u32) -> u8 {
+fn low_byte(number: u32) -> u8
+    ensures { result ≡ number % 256 }
+{
     (number & 0xFF) as u8
 }
 
@@ -201,19 +210,18 @@ fn read_number<W: Wire + Drop, P: Pace + Drop>(
     ensures kept { IsUsable asked.new.mailbox }
     ensures same { asked.new.slave ≡ asked.old.slave }
 {
-    match upload(line, asked, index, subindex)? {
-        Reply::Uploaded(value) => Ok(value.number),
-        Reply::Aborted(code) => Err(ScanError::Start(StartError::Abort {
-            slave: asked.slave,
-            code,
-        })),
-        _ => Err(bad(asked)),
-    }
+    let reply = upload(line, asked, index, subindex)?;
+    number_in(asked, reply)
 }
 
-/// The error of a reply that doesn't fit.
-fn bad(asked: &Asked) -> ScanError {
-    ScanError::Start(StartError::BadMailbox { slave: asked.slave })
+/// The number that a reply brings. The error is `Abort` with the code that aborts the upload, and `BadMailbox` of any other reply.
+fn number_in(asked: &Asked, reply: Reply) -> Result<u32, ScanError> {
+    let slave = asked.slave;
+    match reply {
+        Reply::Uploaded(value) => Ok(value.number),
+        Reply::Aborted(code) => Err(ScanError::Start(StartError::Abort { slave, code })),
+        _ => Err(ScanError::Start(StartError::BadMailbox { slave })),
+    }
 }
 
 /// Asks for a value, and returns the reply.
@@ -227,6 +235,7 @@ fn upload<W: Wire + Drop, P: Pace + Drop>(
     requires usable { IsUsable asked.old.mailbox }
     ensures kept { IsUsable asked.new.mailbox }
     ensures same { asked.new.slave ≡ asked.old.slave }
+    ensures read { IfOk result (λ reply. reply ≡ free_reply_of index subindex Four (message_read line.new.answer)) }
 {
     let request = SdoRequest {
         index,
@@ -274,6 +283,7 @@ fn await_reply<W: Wire + Drop, P: Pace + Drop>(
 ) -> Result<Reply, StartError>
     requires slave { asked.now.slave < 64 }
     requires usable { IsUsable asked.now.mailbox }
+    ensures { IfOk result (λ reply. reply ≡ free_reply_of request.index request.subindex Four (message_read line.new.answer)) }
 {
     let waiting = Action::AwaitReply {
         slave: asked.slave,
@@ -292,7 +302,9 @@ fn await_reply<W: Wire + Drop, P: Pace + Drop>(
 }
 
 /// The reply in a mailbox; none if its message is set aside. A value whose size isn't said has four bytes.
-fn reply_in(mailbox: &[u8], index: u16, subindex: u8) -> Option<Reply> {
+fn reply_in(mailbox: &[u8], index: u16, subindex: u8) -> Option<Reply>
+    ensures { IfSome result (λ reply. reply ≡ free_reply_of index subindex Four (message_read mailbox.now)) }
+{
     if is_aside(mailbox) {
         return None;
     }

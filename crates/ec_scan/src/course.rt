@@ -1,6 +1,7 @@
 //! A scan from the first frame to the last.
-ghost use Rattle.std.specs.Prelude.{◌≤◌, ◌<◌, length, IfOk};
+ghost use Rattle.std.specs.Prelude.{◌≡◌, ◌≤◌, ◌<◌, length, All, IfOk};
 ghost use Rattle.ec_scan.specs.Lines.{WasCounted};
+ghost use Rattle.ec_scan.specs.Showing.{HasWholeSii};
 
 use crate::coe::read_exchanged;
 use crate::error::ScanError;
@@ -23,14 +24,15 @@ const COPIES: u16 = 50;
 ///
 /// # Errors
 ///
-/// What a start-up fails with: `Count` if there are over 64 slaves, `Identity` of an SII that can't be read, `Counter`, `AlError`,
-/// `Abort`, `BadMailbox`, `TooSlow` or `Lost`; or `Memory`.
+/// What a start-up fails with: `Count` if there are over 64 slaves, `Identity` of an SII that can't be read up to its end mark, `Counter`
+/// (also if another number of slaves is there at the end), `AlError`, `Abort`, `BadMailbox`, `TooSlow` or `Lost`; or `Memory`.
 pub fn scan<W: Wire + Drop, P: Pace + Drop>(
     alloc: Global,
     line: &mut Line<W, P>,
 ) -> Result<Vec<Shown>, ScanError>
     ensures few { IfOk result (λ found. length found.items ≤ 64) }
-    ensures counted { IfOk result (λ found. WasCounted line.new.wire (length found.items)) }
+    ensures counted { IfOk result (λ found. WasCounted 1 line.new (length found.items)) }
+    ensures whole { IfOk result (λ found. All HasWholeSii found.items) }
 {
     let found = scan_all(alloc, line);
     // also if a slave took all the frames of its turn
@@ -39,12 +41,14 @@ pub fn scan<W: Wire + Drop, P: Pace + Drop>(
 }
 
 /// Scans the slaves of a segment and leaves them where they are.
+#[tactic(auto, using(crate::proofs::WalkLemmas::same_words))]
 fn scan_all<W: Wire + Drop, P: Pace + Drop>(
     alloc: Global,
     line: &mut Line<W, P>,
 ) -> Result<Vec<Shown>, ScanError>
     ensures few { IfOk result (λ found. length found.items ≤ 64) }
-    ensures counted { IfOk result (λ found. WasCounted line.new.wire (length found.items)) }
+    ensures counted { IfOk result (λ found. WasCounted 0 line.new (length found.items)) }
+    ensures whole { IfOk result (λ found. All HasWholeSii found.items) }
 {
     let count = line.ask(&Action::CountSlaves)?;
     if count > MAX_SLAVES {
@@ -57,9 +61,7 @@ fn scan_all<W: Wire + Drop, P: Pace + Drop>(
     }
     line.ask(&Action::AssignSii(SiiAccess::Device))?;
     for slave in 0..usize::from(count) {
-        if let Some(shown) = found.as_mut_slice().get_mut(slave) {
-            add_exchanged(alloc, line, slave, shown)?;
-        }
+        add_exchanged(alloc, line, slave, &mut found[slave])?;
     }
     line.begin_turn();
     line.ask_counted(&Action::CountSlaves, found.len() as u16)?;
@@ -104,12 +106,14 @@ fn await_init<W: Wire + Drop, P: Pace + Drop>(
 }
 
 /// Reads what a slave shows in INIT.
+#[tactic(auto, using(crate::proofs::WalkLemmas::whole_words))]
 fn read_slave<W: Wire + Drop, P: Pace + Drop>(
     alloc: Global,
     line: &mut Line<W, P>,
     slave: usize,
 ) -> Result<Shown, ScanError>
     requires { slave < 64 }
+    ensures { IfOk result HasWholeSii }
 {
     line.begin_turn();
     let has_firmware = has_firmware(line, slave)?;
@@ -159,6 +163,7 @@ fn add_exchanged<W: Wire + Drop, P: Pace + Drop>(
     shown: &mut Shown,
 ) -> Result<(), ScanError>
     requires { slave < 64 }
+    ensures { shown.new.categories ≡ shown.old.categories }
 {
     let Some(mailbox) = shown.mailbox.usable() else {
         return Ok(());

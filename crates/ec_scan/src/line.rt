@@ -1,5 +1,5 @@
 //! A wire over which a scan asks.
-ghost use Rattle.std.specs.Prelude.{◌≡◌, ◌≤◌, [], length, IfOk, None};
+ghost use Rattle.std.specs.Prelude.{◌≡◌, ◌≤◌, ◌+◌, [], length, IfOk, None};
 ghost use Rattle.ec_start.specs.Doable.{IsDoable};
 ghost use Rattle.ec_scan.specs.Lines.{IsAnswered, IsFresh, IsHeard, Keeps, most_frames, slave_frames};
 ghost use Rattle.ec_scan.specs.Scanning.{IsOfScan};
@@ -97,14 +97,17 @@ impl<W: Wire + Drop, P: Pace + Drop> Line<W, P> {
     /// Begins the next turn: it may take [`SLAVE_FRAMES`] frames, as far as a scan has them left.
     pub(crate) fn begin_turn(&mut self)
         ensures wire { self.new.wire ≡ self.old.wire }
+        ensures number { self.new.number ≡ self.old.number }
         ensures few { self.new.left ≤ slave_frames }
     {
         self.left = SLAVE_FRAMES.min(MOST_FRAMES - self.number);
     }
 
-    /// Asks all slaves for INIT, in a turn of its own, and leaves what was asked last.
+    /// Asks all slaves for INIT, in a turn of its own, by a frame at most, and leaves what was asked last.
     pub(crate) fn dismiss(&mut self)
         ensures asked { self.new.asked ≡ self.old.asked }
+        ensures forward { self.old.number ≤ self.new.number }
+        ensures one { self.new.number ≤ self.old.number + 1 }
         ensures kept { Keeps self.old.wire self.new.wire }
     {
         let asked = self.asked;
@@ -123,6 +126,8 @@ impl<W: Wire + Drop, P: Pace + Drop> Line<W, P> {
         requires doable { IsDoable action.now }
         requires of_scan { IsOfScan action.now }
         ensures answered { IfOk result (IsAnswered action.now self.old self.new) }
+        ensures forward { self.old.number ≤ self.new.number }
+        ensures one { self.new.number ≤ self.old.number + 1 }
         ensures kept { Keeps self.old.wire self.new.wire }
     {
         if self.left == 0 {

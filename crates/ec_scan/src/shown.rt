@@ -69,10 +69,11 @@ pub struct Shown {
     pub mailbox: ShownMailbox,
     /// Whether it has firmware: without, its AL status is a copy of AL control.
     pub has_firmware: bool,
-    /// The words of its SII's categories, from word 0x40 on.
+    /// The words of its SII's categories, from word 0x40 on: up to the end mark, or none if the SII has 64 words.
     pub categories: Listed<u16>,
-    /// The PDOs that it exchanges towards it, in order, with their mapping; none if it doesn't say so by CoE.
+    /// The PDOs that it exchanges towards it, in order, with their mapping. `None` if it doesn't take CoE by [`ShownMailbox::usable`], or
+    /// has no object that says so, 0x1C12: so it answered. One without an index is an empty slot.
     pub outputs: Option<Listed<Pdo>>,
-    /// The PDOs that it exchanges from it.
+    /// The PDOs that it exchanges from it, by 0x1C13.
     pub inputs: Option<Listed<Pdo>>,
 }

@@ -15,5 +15,7 @@ pub mod ManagersGoByRuns
 pub mod ReadsShowTheRun
 -- a slave of a type of real devices
 pub mod HardwareLaws
+-- until the ring has written outputs there is no OP
+pub mod OutputsFirst
 -- slow firmware, and the emergency of a slave that enters PREOP
 pub mod SlowAndLoud

@@ -5,7 +5,7 @@ use Rattle.std.specs.Prelude.{ℕ, ◌+◌, ◌*◌, ◌/◌, ◌≡◌, ◌==�
 use Rattle.ec_bits.specs.Bits.{overlay, zeros}
 use Rattle.ec_device.specs.declared.hardware.Hardware.{Hardware}
 use Rattle.ec_regs.specs.declared.fmmu.FmmuSettings.{FmmuSettings}
-use Rattle.ec_sync.specs.SyncManager.{SyncManager, empty_manager}
+use Rattle.ec_sync.specs.SyncManager.{SyncManager, configured}
 use Rattle.ec_sync.specs.Governing.{governor}
 use Rattle.ec_fmmu.specs.Applied.{LogicalSpan, touched_by_reading, touched_by_writing}
 use Rattle.ec_slave.specs.Managers.{manager_after}
@@ -39,7 +39,7 @@ abbrev pub PhysicalAgainstAll : Type 0
 PhysicalAgainstAll =
     (o : Option Hardware) (reads writes : Bool) (w : Window) (ms : List SyncManager)
     → physical_managers o [] reads writes w 0 ms
-    ≡ each_from 0 (λ n m. if writes && is_configured o w n then empty_manager (settings_written o w n m) m.locked
+    ≡ each_from 0 (λ n m. if writes && is_configured o w n then configured m (settings_written o w n m)
     else manager_after reads writes (touches w) (touches w) (governs_among ms n) (value_among ms w n) m) ms
 
 -- a logical datagram: every manager against all as they were

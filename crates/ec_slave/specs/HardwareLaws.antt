@@ -1,33 +1,35 @@
 -- What a slave of a type of real devices does that others don't: its registers go by numbers and by the addresses of its pins, it
 -- may lack FMMUs and firmware, want outputs before OP, be slow, and send an emergency.
-use Rattle.std.specs.Prelude.{ℕ, ◌+◌, ◌%◌, ◌<◌, ◌≤◌, ◌≡◌, ◌≢◌, List, length, true, false, Option, Some, None, is_some}
+use Rattle.std.specs.Prelude.{ℕ, ◌+◌, ◌%◌, ◌<◌, ◌≤◌, ◌≡◌, ◌≢◌, ◌&&◌, not, List, length, Bool, true, false, Option, Some, None, is_some}
+use Rattle.std.specs.List.{list_any}
 use Rattle.ec_device.specs.declared.hardware.Hardware.{Hardware}
 use Rattle.ec_device.specs.declared.slave_type.Identity.{Identity}
 use Rattle.ec_device.specs.Hardware.{AreNumbered, manager_number, has_firmware, has_emergency}
 use Rattle.ec_device.specs.Types.{SlaveKind}
 use Rattle.ec_regs.specs.declared.manager.SyncManagerSettings.{SyncManagerSettings}
-use Rattle.ec_regs.specs.Managers.{manager_bytes}
+use Rattle.ec_regs.specs.Managers.{is_mailbox, manager_bytes}
 use Rattle.ec_regs.specs.Memory.{al_status, manager_start}
 use Rattle.ec_regs.specs.Names.{shown_manager}
 use Rattle.ec_frame.specs.Datagram.{Datagram}
 use Rattle.ec_al.specs.Al.{waiting}
 use Rattle.ec_al.specs.Transitions.{requested_by}
 use Rattle.ec_al.specs.declared.state.State.{State}
-use Rattle.ec_al.specs.declared.state.State.TheVariants.{Init, PreOp, Op}
+use Rattle.ec_al.specs.declared.state.State.TheVariants.{Init, PreOp, SafeOp, Op}
 use Rattle.ec_al.specs.declared.transition.Requested.TheVariants.{To}
 use Rattle.ec_coe.specs.Emergency.{emergency_bytes}
 use Rattle.ec_coe.specs.Messages.{message_length}
 use Rattle.ec_sync.specs.Governing.{manager_byte}
-use Rattle.ec_sync.specs.SyncManager.{message_put}
+use Rattle.ec_sync.specs.SyncManager.{SyncManager, may_write, message_put}
+use Rattle.ec_sync.specs.Runs.{Operation, RingWrite}
 use Rattle.ec_slave.specs.State.{SlaveState, manager_at, power_on}
 use Rattle.ec_slave.specs.Physical.{Window, byte_at, as_shown, is_configured, is_missing, settings_written}
 use Rattle.ec_slave.specs.Meeting.{slave_met}
 use Rattle.ec_slave.specs.Application.{input_put, output_got, output_taken}
 use Rattle.ec_slave.specs.Checking.{control_word}
 use Rattle.ec_slave.specs.Faulting.{faulted}
-use Rattle.ec_slave.specs.Serving.{served, request_decided, with_al, al_decided, is_awaiting, is_served, takes_reply}
+use Rattle.ec_slave.specs.Serving.{served, request_decided, with_al, al_decided, has_outputs, is_awaiting, is_served, takes_reply}
 use Rattle.ec_slave.specs.Showing.{after_all}
-use Rattle.ec_slave.specs.Steps.{Happening}
+use Rattle.ec_slave.specs.Steps.{Happening, steps_met}
 
 -- ---- names at the border
 
@@ -68,6 +70,52 @@ abbrev pub OutputsComeFirst : Type 0
 OutputsComeFirst =
     (s : SlaveState) (h : Hardware) → s.kind.hardware ≡ Some h → h.has_firmware ≡ true → s.al.state ≢ Op → (served s).al.state ≡ Op
     → (manager_at s.managers 2).awaited ≡ false
+
+-- the ring writes the value of a buffered manager as a whole
+abbrev pub is_value_written : SyncManager → Operation → Bool
+is_value_written m (RingWrite covered value) = covered && (may_write m && not (is_mailbox m.settings))
+is_value_written m o = false
+
+-- A datagram does so at manager n: it gets at the first byte of the value and the last, and the manager lets the ring write.
+abbrev pub writes_value : SlaveState → Datagram → ℕ → Bool
+writes_value s d n = list_any (is_value_written (manager_at s.managers n)) (steps_met d.command s d n)
+
+-- Of all datagrams these alone end a wait, and they do. Others leave what is awaited, also those that set the manager anew.
+abbrev pub WritesEndWaits : Type 0
+WritesEndWaits =
+    (s : SlaveState) (d : Datagram) (n : ℕ)
+    → (manager_at (slave_met s d).managers n).awaited ≡ ((manager_at s.managers n).awaited && not (writes_value s d n))
+
+-- A slave is owed its outputs: where some are assigned, it isn't in OP, and in SAFEOP it awaits them.
+pub record IsOwedOutputs (s : SlaveState) : Type 0 where
+  pub not_in_op : has_outputs s ≡ true → s.al.state ≢ Op
+  pub awaited : has_outputs s ≡ true → s.al.state ≡ SafeOp → (manager_at s.managers 2).awaited ≡ true
+
+-- a slave of a type of real devices that has firmware
+pub record RunsFirmware (s : SlaveState) (h : Hardware) : Type 0 where
+  pub hardware : s.kind.hardware ≡ Some h
+  pub firmware : h.has_firmware ≡ true
+  pub four : length s.managers ≡ 4
+
+-- It is so from the moment that SAFEOP is entered, by a request or a fault,
+pub record IsOwedFromSafeop (s : SlaveState) : Type 0 where
+  pub served : s.al.state ≢ SafeOp → (served s).al.state ≡ SafeOp → IsOwedOutputs (served s)
+  pub faulted : s.al.state ≡ Op → IsOwedOutputs (faulted s)
+
+abbrev pub OutputsAreOwed : Type 0
+OutputsAreOwed = (s : SlaveState) (h : Hardware) → RunsFirmware s h → IsOwedFromSafeop s
+
+-- and whatever happens then it stays so, until a datagram writes the value of manager 2 in SAFEOP: nothing else leads to OP.
+pub record StaysOwed (s : SlaveState) : Type 0 where
+  pub met : (d : Datagram) → (s.al.state ≡ SafeOp → writes_value s d 2 ≡ false) → IsOwedOutputs (slave_met s d)
+  pub served : IsOwedOutputs (served s)
+  pub faulted : IsOwedOutputs (faulted s)
+  pub put : (i x : ℕ) (t : SlaveState) → input_put s i x ≡ Some t → IsOwedOutputs t
+  pub taken : (i : ℕ) → IsOwedOutputs (output_taken s (output_got s i))
+  pub reset : IsOwedOutputs (power_on s.kind s.identity)
+
+abbrev pub OutputsStayOwed : Type 0
+OutputsStayOwed = (s : SlaveState) (h : Hardware) → RunsFirmware s h → IsOwedOutputs s → StaysOwed s
 
 -- Outputs are awaited outside OP alone, and by firmware of real devices alone.
 pub record AwaitsOutsideOp (s : SlaveState) : Type 0 where

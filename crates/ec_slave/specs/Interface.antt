@@ -22,6 +22,7 @@ pub use Rattle.ec_device.specs.declared.slave_type.Pdo.{Pdo}
 pub use Rattle.ec_regs.specs.Fmmus.{fmmu_bytes, no_fmmu, fmmu_of}
 pub use Rattle.ec_regs.specs.Managers.{no_settings, manager_bytes, area_settings, outputs_control, inputs_control, is_mailbox, is_master_written, is_master_read, span, is_buffered, settings_of}
 pub use Rattle.ec_regs.specs.Names.{shown_fmmu, shown_manager}
+use Rattle.ec_regs.specs.Memory.{station_address, fmmu_start}
 pub use Rattle.ec_regs.specs.Memory.{al_control, al_status, sii_control, sii_data, sync_managers, manager_start, ram_start, ram_end, is_stored, takes_writes}
 pub use Rattle.ec_regs.specs.Words.{al_flag, sii_error, sii_busy, al_word}
 pub use Rattle.ec_regs.specs.declared.fmmu.FmmuSettings.{FmmuSettings}
@@ -42,7 +43,7 @@ pub use Rattle.ec_sii.specs.declared.image.SiiImage.{SiiImage}
 pub use Rattle.ec_sync.specs.Buffer.{emptied_buffer, Buffer, Got, view_next, drafted, draft_next, publishing}
 pub use Rattle.ec_sync.specs.Governing.{governor, covers, in_first_buffer, governs}
 use Rattle.ec_sync.specs.Sound.{IsManager}
-pub use Rattle.ec_sync.specs.SyncManager.{SyncManager, no_manager, empty_manager, padded, ring_read, ring_written, awaiting, buffer_length, app_put, may_app_put, may_app_get, app_got, is_enabled, message_in as sync_manager_message_in, may_write, may_read, visible, zeros_published}
+pub use Rattle.ec_sync.specs.SyncManager.{SyncManager, no_manager, empty_manager, configured, padded, ring_read, ring_written, awaiting, buffer_length, app_put, may_app_put, may_app_get, app_got, is_enabled, message_in as sync_manager_message_in, may_write, may_read, visible, zeros_published}
 pub use Rattle.ec_fmmu.specs.Applied.{LogicalSpan, inside_span}
 pub use Rattle.ec_fmmu.specs.Areas.{Area, Spans}
 pub use Rattle.ec_fmmu.specs.Sets.{target, source, readers, writers}
@@ -69,7 +70,7 @@ pub use Rattle.ec_slave.specs.Application.{get_size, put_size, input_put, inputs
 pub use Rattle.ec_slave.specs.Checking.{checks_of, control_word, mailbox_check, process_check, outputs_mode, inputs_mode, is_manager}
 use Rattle.ec_slave.specs.Column.{datagram_past}
 pub use Rattle.ec_slave.specs.Exchange.{with_outputs, with_published, outputs_from, inputs_into, inputs_of, IsMapped, takes, gives, IsBufferAt}
-pub use Rattle.ec_slave.specs.Faulting.{faulted, locked_empty}
+pub use Rattle.ec_slave.specs.Faulting.{faulted, outputs_lost}
 pub use Rattle.ec_slave.specs.Logical.{meets_logically, span_of}
 pub use Rattle.ec_slave.specs.LogicalLaws.{Misses}
 pub use Rattle.ec_slave.specs.Managers.{reads_under, writes_under, is_ungoverned, is_read_by, is_written_by}
@@ -207,9 +208,17 @@ RequestsAreAnswered =
 
 -- ---- a fault, and the application
 
+-- a manager that was locked and emptied, whether it is awaited or not
+pub record IsLost (old new : SyncManager) : Type 0 where
+  pub settings : new.settings ≡ old.settings
+  pub locked : new.locked ≡ true
+  pub buffer : new.buffer ≡ emptied_buffer (buffer_length old.settings)
+  pub mail : new.mail ≡ None
+
 -- In OP a fault takes the state back, and empties and locks the outputs; in other states it does nothing.
 pub record IsAfterFault (s t : SlaveState) : Type 0 where
-  pub in_op : al.is_operational s.al.state ≡ true → t ≡ record s { al = al.faulted s.al; managers = slice_set s.managers 2 (locked_empty (manager_at s.managers 2)) }
+  pub in_op : al.is_operational s.al.state ≡ true → t ≡ record s { al = al.faulted s.al; managers = slice_set s.managers 2 (outputs_lost s) }
+  pub lost : IsLost (manager_at s.managers 2) (outputs_lost s)
   pub elsewhere : al.is_operational s.al.state ≡ false → t ≡ s
 
 abbrev pub FaultsAreInOp : Type 0
@@ -365,9 +374,9 @@ OutputsArePublished = (s : SlaveState) (v : List ℕ) → PublishesOutputs s v
 
 -- ---- registers
 
--- the manager at place n after a write of registers: new settings empty it, and leave its lock
+-- the manager at place n after a write of registers
 abbrev pub set_by : Option Hardware → Window → ℕ → SyncManager → SyncManager
-set_by o w n m = if is_configured o w n then empty_manager (settings_written o w n m) m.locked else m
+set_by o w n m = if is_configured o w n then configured m (settings_written o w n m) else m
 
 -- what a write of registers leaves
 pub record Wrote (w : Window) (s t : SlaveState) : Type 0 where
@@ -402,7 +411,7 @@ ManagersAside =
 abbrev pub ManagersAreCleared : Type 0
 ManagersAreCleared =
     (o : Option Hardware) (bytes : List ℕ) (n : ℕ) (m : SyncManager) → AreNumbered o → 32 ≤ length bytes → ((k : ℕ) → k < length bytes → slice_index bytes k ≡ 0) → n < 4
-    → set_by o (record { from = sync_managers; bytes = bytes }) n m ≡ empty_manager no_settings m.locked
+    → set_by o (record { from = sync_managers; bytes = bytes }) n m ≡ configured m no_settings
 
 -- A write of 0x0500, by which a master takes the SII or leaves it to the device, changes nothing of a slave that isn't full.
 abbrev pub SiiConfigurationIsLeft : Type 0
@@ -424,13 +433,15 @@ pub record AreOpen (ms : List SyncManager) (touched : ℕ → Bool) (a : ℕ) : 
 abbrev pub RegistersAreOpen : Type 0
 RegistersAreOpen = (ms : List SyncManager) (touched : ℕ → Bool) (a : ℕ) → a < ram_start → AreOpen ms touched a
 
--- what the registers of the AL status and of the SII read
+-- what the registers of the AL status and of the SII read; station address and FMMUs read as they were stored
 pub record ShowsItself (s : SlaveState) : Type 0 where
   pub status : byte_at s al_status ≡ al.status_word s.al
   pub status_high : byte_at s (al_status + 1) ≡ 0
   pub sii_low : byte_at s sii_control ≡ 0
   pub sii_high : byte_at s port.command_address ≡ from_bool s.sii.busy + 32 * from_bool s.sii.error + 128 * from_bool s.sii.busy
   pub sii_found : (k : ℕ) → k < 4 → byte_at s (sii_data + k) ≡ slice_index (to_le_bytes w32 s.sii.found) k
+  pub station : (k : ℕ) → k < 2 → byte_at s (station_address + k) ≡ slice_index s.memory (station_address + k)
+  pub mappings : (n k : ℕ) → n < 4 → k < 16 → byte_at s (fmmu_start n + k) ≡ slice_index s.memory (fmmu_start n + k)
 
 abbrev pub SlavesShowThemselves : Type 0
 SlavesShowThemselves = (s : SlaveState) → ShowsItself s

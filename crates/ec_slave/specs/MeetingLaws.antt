@@ -4,7 +4,7 @@ use Rattle.ec_bits.specs.Bits.{bit, within}
 use Rattle.ec_regs.specs.Memory.{sii_control, sync_managers, ram_start}
 use Rattle.ec_frame.specs.declared.command.Command.TheVariants.{Lrd, Lwr, Lrw}
 use Rattle.ec_frame.specs.Datagram.{Datagram, adp_of, ado_of}
-use Rattle.ec_sync.specs.SyncManager.{SyncManager, empty_manager, visible}
+use Rattle.ec_sync.specs.SyncManager.{SyncManager, configured, visible}
 use Rattle.ec_dl.specs.DataLink.{dl_stores}
 use Rattle.ec_fmmu.specs.Applied.{touched_by_writing}
 use Rattle.ec_slave.specs.Roles.{role_of, is_writing}
@@ -29,13 +29,13 @@ RegistersAfterWrite =
     → byte_at (slave_met s d) a ≡ (if touches (window_of d) a && (keeps s.kind.hardware a || dl_stores s.link a) then slice_index d.data_bytes (a - ado_of d) else byte_at s a)
 
 -- A writing datagram over registers alone: each manager of which it writes a setting has the settings that its bytes then
--- say, is empty, and is locked or not as it was; every other manager is as it was.
+-- say, is empty, and is locked or not, awaited or not as it was; every other manager is as it was.
 abbrev pub ManagersAfterWrite : Type 0
 ManagersAfterWrite =
     (s : SlaveState) (d : Datagram) (n : ℕ) → n < length s.managers → writes_at s d ≡ true → ado_of d + length d.data_bytes ≤ ram_start
     → let m : SyncManager = manager_at s.managers n in
     manager_at (slave_met s d).managers n
-    ≡ (if is_configured s.kind.hardware (window_of d) n then empty_manager (settings_written s.kind.hardware (window_of d) n m) m.locked else m)
+    ≡ (if is_configured s.kind.hardware (window_of d) n then configured m (settings_written s.kind.hardware (window_of d) n m) else m)
 
 -- A logical datagram moves bits. A data bit becomes what the read set shows for it, if it may be read. A bit of the memory
 -- itself becomes what the write set brings it, if no manager governs it. All other bits are as they were.

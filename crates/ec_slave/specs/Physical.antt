@@ -9,7 +9,7 @@ use Rattle.ec_regs.specs.declared.manager.SyncManagerSettings.{SyncManagerSettin
 use Rattle.ec_regs.specs.Memory.{number_of_fmmus, number_of_sync_managers, ram_size, station_address, al_control, al_status, al_status_code, sii_control, fmmus, fmmu_start, sync_managers, manager_start, ram_start, ram_end, is_stored, takes_writes}
 use Rattle.ec_regs.specs.Managers.{settings_of}
 use Rattle.ec_regs.specs.Names.{shown_manager}
-use Rattle.ec_sync.specs.SyncManager.{SyncManager, empty_manager}
+use Rattle.ec_sync.specs.SyncManager.{SyncManager, configured}
 use Rattle.ec_sync.specs.Governing.{governor, manager_byte, visible_byte}
 use Rattle.ec_al.specs.Al.{status_word, requesting}
 use Rattle.ec_dl.specs.DataLink.{dl_byte, dl_takes, dl_written}
@@ -130,10 +130,10 @@ settings_written o w n m = shown_manager o (settings_of (λ k. unwrap_or (settin
 abbrev pub physical_value : List SyncManager → Window → ℕ → ℕ → List ℕ
 physical_value lower w start len = updated (zeros len) (λ k. if is_ungoverned lower (start + k) then byte_from w (start + k) else None)
 
--- the manager at place n after the datagram, `lower` being those before it: new settings empty it
+-- the manager at place n after the datagram, `lower` being those before it
 unfoldable pub physical_manager : Option Hardware → List SyncManager → Bool → Bool → Window → ℕ → SyncManager → SyncManager
 physical_manager o lower reads writes w n m =
-    if writes && is_configured o w n then empty_manager (settings_written o w n m) m.locked
+    if writes && is_configured o w n then configured m (settings_written o w n m)
     else manager_after reads writes (touches w) (touches w) (is_ungoverned lower) (physical_value lower w) m
 
 -- each manager after it, the first being at place n

@@ -5,6 +5,7 @@ use Rattle.std.specs.List.{All}
 use Rattle.ec_device.specs.declared.hardware.Hardware.{Hardware}
 use Rattle.ec_al.specs.Al.{Al, is_operational}
 use Rattle.ec_al.specs.declared.state.State.{State}
+use Rattle.ec_al.specs.declared.state.State.TheVariants.{SafeOp, Op}
 use Rattle.ec_coe.specs.declared.message.Message.{Message}
 use Rattle.ec_coe.specs.Emergency.{emergency_bytes}
 use Rattle.ec_frame.specs.declared.command.Command.{Command}
@@ -21,7 +22,7 @@ use Rattle.ec_slave.specs.Logical.{span_of}
 use Rattle.ec_slave.specs.AgainstAll.{governs_among, value_among, bits_among}
 use Rattle.ec_slave.specs.Meeting.{slave_met, window_of}
 use Rattle.ec_slave.specs.Application.{input_put, output_got, output_taken, with_manager}
-use Rattle.ec_slave.specs.Serving.{served, is_init, is_preop, is_safeop, reply_counter, al_decided, has_outputs, greets_by, replies_decided, is_slow, is_awaiting, request_decided, read_finished, is_served, request_in, refusal_in, bytes_to}
+use Rattle.ec_slave.specs.Serving.{served, is_init, is_preop, is_safeop, reply_counter, al_decided, awaited_by, has_outputs, greets_by, replies_decided, is_slow, is_awaiting, request_decided, read_finished, is_served, request_in, refusal_in, bytes_to}
 use Rattle.ec_slave.specs.Faulting.{faulted}
 
 -- One manager after an access is as after one step: what counts as reaching its first and its last byte is that the
@@ -163,12 +164,17 @@ steps_answered s n =
     then said_from 0 (message_steps (bytes_back (with_manager s 0 (message_taken (manager_at s.managers 0))) (refusal_in s) (request_in s))) s.managers n
     else []
 
--- A fault locks and empties the outputs. A byte that the application may put or get is put or got. A slave that is switched off
+-- what is awaited from now on, if that is said
+abbrev pub steps_said : Option Bool → List Operation
+steps_said None = []
+steps_said (Some b) = Await b ∷ []
+
+-- A fault locks and empties the outputs, which a type of real devices then awaits. A byte that the application may put or get is put or got. A slave that is switched off
 -- and on has new managers.
 abbrev pub steps_at : SlaveState → Happening → ℕ → List Operation
 steps_at s (Meets d) n = steps_met d.command s d n
 steps_at s Serves n = steps_decided s n ++ steps_answered (read_finished (request_decided s)) n
-steps_at s Faults n = if is_operational s.al.state then to_one 2 (Lock true ∷ Empty ∷ []) s.managers n else []
+steps_at s Faults n = if is_operational s.al.state then to_one 2 (Lock true ∷ Empty ∷ steps_said (awaited_by s.kind.hardware (has_outputs s) Op SafeOp)) s.managers n else []
 steps_at s (Puts offset byte) n = if is_some (input_put s offset byte) then to_one 3 (AppPut offset byte ∷ []) s.managers n else []
 steps_at s (Gets offset) n = if is_some (output_got s offset) then to_one 2 (AppGet offset ∷ []) s.managers n else []
 steps_at s Resets n = []
@@ -207,10 +213,10 @@ abbrev pub AreRunTo : (Operation → Bool) → ℕ → SlaveState → Happening 
 AreRunTo kind most s h = (n : ℕ) → IsRunTo kind most (steps_at s h n) (manager_at s.managers n) (manager_at (after_one s h).managers n)
 
 -- A datagram does one step to a manager, or none; a firmware step does three: a state is entered, and a message taken or
--- put; a fault does two; the application does one with each byte.
+-- put; a fault does three at most; the application does one with each byte.
 pub record ManagersGoByRuns : Type 0 where
   pub met : (s : SlaveState) (d : Datagram) → AreRunTo is_of_ring 1 s (Meets d)
   pub served : (s : SlaveState) → AreRunTo is_of_firmware 3 s Serves
-  pub faulted : (s : SlaveState) → AreRunTo is_of_firmware 2 s Faults
+  pub faulted : (s : SlaveState) → AreRunTo is_of_firmware 3 s Faults
   pub put : (s : SlaveState) (offset byte : ℕ) → AreRunTo is_of_application 1 s (Puts offset byte)
   pub taken : (s : SlaveState) (offset : ℕ) → AreRunTo is_of_application 1 s (Gets offset)

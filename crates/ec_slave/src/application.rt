@@ -138,6 +138,7 @@ fn reset_manager(manager: &mut SyncManager)
     ensures { manager.new ≡ no_manager }
 {
     manager.set_locked(false);
+    manager.await_value(false);
     manager.configure(SyncManagerSettings {
         start: 0,
         length: 0,

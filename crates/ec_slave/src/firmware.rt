@@ -43,7 +43,7 @@ impl Slave {
     }
 
     /// A fault of the slave's application. Returns whether the slave is in OP, and only then does something: the slave goes to
-    /// SAFEOP with an error, and manager 2 is locked and emptied.
+    /// SAFEOP with an error, and manager 2 is locked and emptied. Firmware of real devices awaits outputs then.
     #[tactic(auto, unfolding(crate::specs::Faulting::faulted))]
     pub fn fault(&mut self) -> bool
         ensures taken { IsTrue result ↔ (self.old.al.state ≡ Op) }
@@ -53,6 +53,7 @@ impl Slave {
             return false;
         }
         lock(&mut self.managers[2]);
+        self.await_outputs(State::Op);
         true
     }
 

@@ -8,7 +8,7 @@ ghost use Rattle.ec_slave.specs.MeetingLaws.{LogicalBitByBit, ManagersAfterWrite
 ghost use Rattle.ec_slave.specs.AgainstAll.{LogicalAgainstAll, PhysicalAgainstAll};
 ghost use Rattle.ec_slave.specs.Showing.{ReadsShowTheRun, SlavesShowWholeValues};
 ghost use Rattle.ec_slave.specs.Steps.{AccessesAreSteps, ManagersGoByRuns};
-ghost use Rattle.ec_slave.specs.HardwareLaws.{EmergenciesComeFirst, MissingFmmusReadZero, OutputsAreAwaitedOutsideOp, OutputsComeFirst, RequestsWaitLong, SlavesTakeNames, StatusIsCopied, SwitchedOnAwaitsNothing};
+ghost use Rattle.ec_slave.specs.HardwareLaws.{EmergenciesComeFirst, MissingFmmusReadZero, OutputsAreAwaitedOutsideOp, OutputsAreOwed, OutputsComeFirst, OutputsStayOwed, RequestsWaitLong, SlavesTakeNames, StatusIsCopied, SwitchedOnAwaitsNothing, WritesEndWaits};
 ghost use Rattle.ec_slave.specs.LogicalLaws.{BroadcastLaw, ExchangeLaw, MappedLaw, MissesLaw};
 ghost use Rattle.ec_slave.specs.Interface.{SlavesAreSwitchedOn, SwitchedOnWhole, StepsHaveThreeParts, StepsSettle, RequestsAreDecided, PlainTypesDecide, ChecksAreOfManagers, ReadsAreFinished, MessagesKeep, MessagesRest, RequestsAreAnswered};
 ghost use Rattle.ec_slave.specs.Interface.{FaultsAreInOp, ApplicationsGoByBytes, ApplicationsGoWhole, FewInputs, DatagramsKeepTheInside, ValuesStayWhole, DatagramsGoOn, DatagramsStay, DatagramsStayPast, WritesMeet, ReadsMeet, LogicalCommandsMeet, OutputsArePublished};
@@ -158,11 +158,20 @@ pub fn missing_fmmus_read_zero()
 {}
 
 /// A device without firmware shows in AL status what was written to AL control. One with firmware, of a type of real devices, enters
-/// OP only once the ring has written its outputs in SAFEOP.
+/// OP only if no outputs are awaited.
 #[tactic(auto, using(crate::proofs::Always::HardwareLaws::status_copied, crate::proofs::Always::HardwareLaws::outputs_first))]
 pub fn devices_enter_states()
     ensures copied { StatusIsCopied }
     ensures outputs { OutputsComeFirst }
+{}
+
+/// From the moment that a slave with firmware of real devices enters SAFEOP, by a request or a fault, it doesn't come to OP while outputs
+/// are assigned, whatever happens, until a datagram writes the whole value of manager 2 in SAFEOP.
+#[tactic(auto, using(crate::proofs::Always::OutputsFirst::writes_end_waits))]
+pub fn outputs_come_first()
+    ensures ends { WritesEndWaits }
+    ensures begin { OutputsAreOwed }
+    ensures stay { OutputsStayOwed }
 {}
 
 /// Slow firmware decides a request by the step that finds that as many before it let the request wait as the type says.
@@ -299,7 +308,7 @@ pub fn registers_are_written()
     ensures fresh { FreshSlavesAreLeft }
 {}
 
-/// What the registers of the AL status and of the SII read.
+/// What the registers of the AL status and of the SII read; station address and FMMUs read as they were stored.
 pub fn slaves_show_themselves()
     ensures { SlavesShowThemselves }
 {}

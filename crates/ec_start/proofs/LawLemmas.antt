@@ -11,7 +11,6 @@ use Rattle.ec_device.specs.Objects.{pdo_at}
 use Rattle.ec_link.specs.declared.settings.SlavePlan.{SlavePlan}
 use Rattle.ec_coe.specs.Objects.{output_assignment, input_assignment, has_some}
 use Rattle.ec_start.specs.declared.action.SdoRequest.{SdoRequest}
-use Rattle.ec_start.specs.declared.aside.Heard.{Heard}
 use Rattle.ec_start.specs.declared.verdict.Verdict.{Verdict}
 use Rattle.ec_start.specs.declared.verdict.Verdict.TheVariants.{Next, Word, Fed, Again, Aside, Fails}
 use Rattle.ec_start.specs.declared.phase.Phase.{Phase}
@@ -22,7 +21,7 @@ use Rattle.ec_start.specs.Scripts.{downloads as download_of, parameter_value, pa
 use Rattle.ec_frame.specs.Datagram.{Datagram}
 use Rattle.ec_start.specs.Verdicts.{verdict}
 use Rattle.ec_start.specs.Running.{StartState, Shape, shape, second, action_of, type_of, taken, begun, is_ended, asked_by, next_frame_by, given_up_by, polled, judged, max_polls, last_number, sending, IsStartTaken}
-use Rattle.ec_start.specs.Seeking.{mappings_of, assignments_of}
+use Rattle.ec_start.specs.Seeking.{mappings_of}
 use Rattle.ec_start.specs.Laws.{IsScriptOfThree, AreUploads, AreDownloads, IsUploadsFirst, UploadsComeFirst, MappingsAreReadBehindParameters, FixedIsOnlyRead, CountersRunToSeven, EndedStays, HasSamePlan, TakenKeepsThePlan, PlansStay, PollsEnd, ForeignChangesNothing, FramesAreAnswered}
 
 pub script_of_three : IsScriptOfThree

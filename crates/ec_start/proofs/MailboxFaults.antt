@@ -1,5 +1,5 @@
 -- What is wrong at a mailbox ends the start-up.
-use Rattle.std.proofs.Common.{◌≡◌, ℕ, ◌+◌, ◌<◌, ◌≤◌, ◌==◌, List, length, Bool, true, false, if◌then◌else◌, Some, refl, ap, ◌∙◌, inl, inr, arith}
+use Rattle.std.proofs.Common.{◌≡◌, ℕ, ◌+◌, ◌≤◌, ◌==◌, List, length, Bool, true, if◌then◌else◌, Some, refl, ap, ◌∙◌, inl, inr, arith}
 use Rattle.std.proofs.lemmas.Bool.{cases_Bool, and_parts, leb-true, eq-eqb, ne_eqb}
 use Rattle.ec_frame.specs.Datagram.{Datagram}
 use Rattle.ec_coe.specs.declared.reply.Reply.{Reply}
@@ -11,12 +11,10 @@ use Rattle.ec_start.specs.declared.action.Transfer.TheVariants.{Download, Upload
 use Rattle.ec_start.specs.declared.action.SdoRequest.{SdoRequest}
 use Rattle.ec_start.specs.declared.action.Action.{Action}
 use Rattle.ec_start.specs.declared.aside.Heard.{Heard}
-use Rattle.ec_start.specs.declared.error.StartError.{StartError}
-use Rattle.ec_start.specs.declared.error.StartError.TheVariants.{BadMailbox, Counter, Abort, TooSlow}
-use Rattle.ec_start.specs.declared.verdict.Verdict.{Verdict}
+use Rattle.ec_start.specs.declared.error.StartError.TheVariants.{BadMailbox, Counter, Abort}
 use Rattle.ec_start.specs.declared.verdict.Verdict.TheVariants.{Next, Again, Aside, Fails}
 use Rattle.ec_start.specs.declared.phase.Phase.TheVariants.{Failed}
-use Rattle.ec_start.specs.Verdicts.{is_emergency, verdict, counted, heard_in, size_asked, free_reply_verdict, free_message_verdict, free_verdict}
+use Rattle.ec_start.specs.Verdicts.{is_emergency, verdict, counted, heard_in, free_reply_verdict, free_message_verdict, free_verdict}
 use Rattle.ec_start.specs.Running.{StartState, action_of, type_of, polled, judged, taken, max_polls}
 use Rattle.ec_start.specs.Laws.{AsideIsAPoll, IsFound, IsFoundReply, IsPolled, MailboxFaultsEnd}
 

@@ -28,7 +28,7 @@ use Rattle.ec_coe.specs.SwitchedOn.{value_size}
 use Rattle.ec_coe.specs.declared.value.SdoValue.{SdoValue}
 use Rattle.ec_device.specs.Objects.{pdo_at}
 use Rattle.ec_start.specs.declared.action.SdoRequest.{SdoRequest}
-use Rattle.ec_start.specs.Scripts.{uploads, downloads, parameter_value, parameters_written, entries_read, pdo_read, slots_written, count_written, assignment_written, slots_read, assignment_of, pdo_requests}
+use Rattle.ec_start.specs.Scripts.{uploads, downloads, parameters_written, entries_read, pdo_read, slots_written, count_written, assignment_written, slots_read, assignment_of, pdo_requests}
 use Rattle.ec_start.specs.Planned.{AreMailboxes, IsRequest, AreRequests}
 use Rattle.ec_start.specs.Interface.{PlannedSlavesAreStartable}
 

@@ -7,7 +7,7 @@ use Rattle.ec_bits.specs.Bits.{zeros}
 use Rattle.ec_regs.specs.declared.manager.SyncManagerSettings.{SyncManagerSettings}
 use Rattle.ec_regs.specs.Managers.{settings_of, manager_bytes, is_mailbox}
 use Rattle.ec_sync.specs.Buffer.{Got}
-use Rattle.ec_sync.specs.SyncManager.{SyncManager, no_manager, buffer_length, empty_manager, zeros_published, may_read, may_write, may_app_put, may_app_get, ring_written, ring_read, visible, app_put, app_got, after_get, message_in, message_taken, may_put_message, padded, message_put, awaiting}
+use Rattle.ec_sync.specs.SyncManager.{SyncManager, no_manager, buffer_length, configured, empty_manager, zeros_published, may_read, may_write, may_app_put, may_app_get, ring_written, ring_read, visible, app_put, app_got, after_get, message_in, message_taken, may_put_message, padded, message_put, awaiting}
 use Rattle.ec_sync.specs.Sound.{IsManager}
 use Rattle.ec_sync.specs.Governing.{manager_byte, covers, after_ring_write, after_ring_read}
 
@@ -27,7 +27,7 @@ pub data Operation : Type 0 where
 
 -- the manager after one
 abbrev pub step : SyncManager → Operation → SyncManager
-step m (Configure settings) = empty_manager settings m.locked
+step m (Configure settings) = configured m settings
 step m (Lock locked) = record m { locked = locked }
 step m Empty = empty_manager m.settings m.locked
 step m PublishZeros = zeros_published m
@@ -174,7 +174,7 @@ gets_from i (suc n) = AppGet i ∷ gets_from (i + 1) n
 -- The contract of each call says that the manager goes by the step of that name. A call that takes all bytes of a
 -- value goes by the steps of all of them.
 pub record CallsAreSteps : Type 0 where
-  pub configure : (m : SyncManager) (settings : SyncManagerSettings) → empty_manager settings m.locked ≡ step m (Configure settings)
+  pub configure : (m : SyncManager) (settings : SyncManagerSettings) → configured m settings ≡ step m (Configure settings)
   pub set_locked : (m : SyncManager) (locked : Bool) → record m { locked = locked } ≡ step m (Lock locked)
   pub empty : (m : SyncManager) → empty_manager m.settings m.locked ≡ step m Empty
   pub publish_zeros : (m : SyncManager) → zeros_published m ≡ step m PublishZeros

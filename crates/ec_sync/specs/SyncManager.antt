@@ -32,6 +32,10 @@ pub record LiesInRam (m : SyncManagerSettings) : Type 0 where
   pub from : ram_start ≤ m.start
   pub to : m.start + m.length ≤ ram_end
 
+-- New settings empty it. It stays locked or not, and a value that is awaited stays awaited.
+abbrev pub configured : SyncManager → SyncManagerSettings → SyncManager
+configured m settings = record (empty_manager settings m.locked) { awaited = m.awaited }
+
 -- as the power comes on
 abbrev pub no_manager : SyncManager
 no_manager = empty_manager no_settings false

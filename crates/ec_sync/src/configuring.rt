@@ -1,7 +1,7 @@
 //! Settings, the deactivate bit, and what empties a manager.
 
 ghost use Rattle.std.specs.Prelude.{◌≡◌, ◌≤◌};
-ghost use Rattle.ec_sync.specs.SyncManager.{awaiting, buffer_length as buffer_length_of, empty_manager, zeros_published};
+ghost use Rattle.ec_sync.specs.SyncManager.{awaiting, buffer_length as buffer_length_of, configured, empty_manager, zeros_published};
 
 use crate::bounds::Bounds;
 use crate::manager::SyncManager;
@@ -9,13 +9,12 @@ use ec_regs::SyncManagerSettings;
 
 impl SyncManager {
     /// A ring write to its settings: it takes them and is empty, even if they are as before. It stays locked or
-    /// not.
+    /// not, and a value that is awaited stays awaited.
     pub fn configure(&mut self, settings: SyncManagerSettings)
-        ensures { self.new ≡ empty_manager settings self.old.locked }
+        ensures { self.new ≡ configured self.old settings }
     {
         self.settings = settings;
         self.bounds = Bounds::of(settings);
-        self.is_awaited = false;
         self.mail.empty();
         self.buffer.empty(buffer_length(settings));
     }

@@ -91,7 +91,7 @@ impl SyncManager {
     }
 
     /// Whether the firmware awaits the ring's next value: it did so by `await_value`, and since then the ring has written none
-    /// and nothing has emptied the manager.
+    /// and `empty` hasn't been called.
     pub fn is_awaited(&self) -> bool
         ensures { result ≡ self.now.awaited }
     {

@@ -24,7 +24,7 @@ pub use Rattle.ec_frame.proofs.FrameOrFault.{one_payload}
 unfoldable pub use Rattle.ec_regs.specs.Managers.{is_set}
 unfoldable pub use Rattle.ec_sync.specs.Buffer.{app_written, app_read}
 pub use Rattle.ec_fmmu.proofs.RunLaws.{read_set_is_run, write_set_is_run}
-pub use Rattle.ec_slave.specs.Interface.{SlaveState, manager_at, power_on, served, emptied_buffer, Buffer, Got, drafted, draft_next, view_next, SyncManager, no_manager, empty_manager, buffer_length, Init, Identity, SlaveKind, Sii, faulted, is_running, input_put, output_got, output_taken, with_manager, Datagram, LogicalSpan, outputs_from, inputs_into, Area, Spans, bare_payload, status_word, with_answer, byte_at, updated, adp_of, ado_of, Payload, IsFrame, with_datagrams, meets, passes, Passed, IsPassed, inputs_of, SyncManagerSettings, is_buffered, SafeOp, Op, Al, with_memory, with_outputs, with_published, outputs_shown, FmmuSettings, fmmu_of, may_read, may_write, publishing, inside_span, target, source, readers, writers, fmmus_of, IsMapped, takes, gives, Misses, no_settings, is_mailbox, span, ram_start, ram_end, may_app_put, may_app_get, governs, governor, no_fmmu, fmmus, IsBufferAt, Met, span_of, meets_logically, Lrd, Lwr, Lrw as SlaveLrw, AreWhole, State, IsDatagram, slave_met, datagram_met, al_word, state_number, PreOp, plain_kind, device_identity}
+pub use Rattle.ec_slave.specs.Interface.{SlaveState, manager_at, power_on, served, emptied_buffer, Buffer, Got, drafted, draft_next, view_next, SyncManager, no_manager, outputs_lost, buffer_length, Init, Identity, SlaveKind, Sii, faulted, is_running, input_put, output_got, output_taken, with_manager, Datagram, LogicalSpan, outputs_from, inputs_into, Area, Spans, bare_payload, status_word, with_answer, byte_at, updated, adp_of, ado_of, Payload, IsFrame, with_datagrams, meets, passes, Passed, IsPassed, inputs_of, SyncManagerSettings, is_buffered, SafeOp, Op, Al, with_memory, with_outputs, with_published, outputs_shown, FmmuSettings, fmmu_of, may_read, may_write, publishing, inside_span, target, source, readers, writers, fmmus_of, IsMapped, takes, gives, Misses, no_settings, is_mailbox, span, ram_start, ram_end, may_app_put, may_app_get, governs, governor, no_fmmu, fmmus, IsBufferAt, Met, span_of, meets_logically, Lrd, Lwr, Lrw as SlaveLrw, AreWhole, State, IsDatagram, slave_met, datagram_met, al_word, state_number, PreOp, plain_kind, device_identity}
 pub use Rattle.ec_slave.proofs.Memory.BroadcastLaw.{broadcast_read}
 pub use Rattle.ec_slave.proofs.LogicalAccess.ExchangeLaw.{exchange}
 pub use Rattle.ec_slave.proofs.LogicalAccess.OutputsPublished.{outputs_published, mapped_kept}

@@ -1,5 +1,5 @@
 -- Laws over the definitions.
-use Rattle.std.specs.Prelude.{ℕ, ◌+◌, ◌-◌, ◌*◌, ◌^◌, ◌<◌, ◌≡◌, List, [], ◌∷◌, ◌++◌, length, map, get_or, Bool, true, if◌then◌else◌, is_some, unwrap_or, bit_or, ◌≢◌}
+use Rattle.std.specs.Prelude.{ℕ, ◌+◌, ◌-◌, ◌*◌, ◌^◌, ◌<◌, ◌≡◌, List, [], ◌∷◌, ◌++◌, length, map, get_or, Bool, true, if◌then◌else◌, is_some, unwrap_or, bit_or}
 use Rattle.std.specs.List.{fold, Contains}
 use Rattle.ec_bits.specs.Bits.{bit}
 use Rattle.ec_al.specs.Al.{status_word}

@@ -149,5 +149,5 @@ fn is_of_writer(error: MachineError) -> bool {
 }
 
 fn has_unsaid(found: &[Found]) -> bool {
-    found.iter().any(|one| one.unsaid.is_some())
+    found.iter().any(|one| !one.unsaid.is_empty())
 }

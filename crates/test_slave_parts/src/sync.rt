@@ -391,7 +391,7 @@ configures 1100 0002 24 01
 register 7 > 01
 is_enabled > 00
 
-# A value is awaited until the ring writes one, or the manager is emptied.
+# A value is awaited until the ring writes one. New settings leave that.
 configures 1100 0001 24 01
 awaits 01
 is_awaited > 01
@@ -401,6 +401,8 @@ gets 1 >
 is_awaited > 00
 awaits 01
 configures 1100 0001 24 01
+is_awaited > 01
+awaits 00
 is_awaited > 00
 
 # bounds of a span with its three buffers, of a mailbox, and of a manager that isn't set

@@ -1,5 +1,5 @@
 -- Applications that step between the frames of a start-up change nothing of what its next frame relies on.
-use Rattle.ec_bringup.proofs.Words.{ℕ, zero, suc, ◌+◌, ◌<◌, ◌≡◌, ◌≢◌, true, false, refl, sym, ◌∙◌, ap, arith, List, [], ◌∷◌, length, get_or-set_other, SlaveKind, Buffer, SyncManager, no_manager, Al, SlaveState, manager_at, is_running, with_manager, Action, CountSlaves, AskInit, AskWord, AwaitWord, AwaitState, AwaitReply, AwaitFreeReply, Stage, Before, Called, Down, Lowered, Up, unviewed, set, Stands, IsSpelled, Rising, turned, turns, rising, Applied, Rests, Reads, Writes, AreApplied, TurnsTo, AppliedStays as Stays, Turns}
+use Rattle.ec_bringup.proofs.Words.{ℕ, zero, suc, ◌+◌, ◌<◌, ◌≡◌, ◌≢◌, true, false, refl, sym, ◌∙◌, ap, arith, List, [], ◌∷◌, length, get_or-set_other, SlaveKind, Buffer, SyncManager, no_manager, Al, SlaveState, manager_at, is_running, with_manager, Action, CountSlaves, AskInit, AskWord, AwaitWord, AwaitState, AwaitReply, AwaitFreeReply, Stage, Before, Called, Down, Lowered, Up, unviewed, set, Stands, IsOfType, Rising, turned, turns, rising, Applied, Rests, Reads, Writes, AreApplied, TurnsTo, AppliedStays as Stays, Turns}
 use Rattle.ec_bringup.proofs.OneSlave.Fault.{Changed, buffered-stands}
 use Rattle.ec_bringup.proofs.OneSlave.Dry.{Dry, DryAt}
 use Rattle.ec_bringup.proofs.AllSlaves.Delays.{LateAt, late-same}
@@ -9,7 +9,7 @@ use Rattle.ec_bringup.proofs.AllSlaves.FramePasses.{Each}
 -- what each slave shows before an action
 pub record Stood (kind : SlaveKind) (i : ℕ) (st : Stage) (x : Al) (n more here : ℕ) (a : Action) (s : SlaveState) : Type 0 where
   pub stands : Stands kind i st false s
-  pub spelled : IsSpelled kind.device s
+  pub spelled : IsOfType kind s.sii.image.identity
   pub sure : Sure kind i x more here a s
   pub late : LateAt kind x n st s
   pub dry : DryAt st s
@@ -59,7 +59,7 @@ stood-buffered : (kind : SlaveKind) (i : ℕ) (st : Stage) (x : Al) (sent more h
     → (n ≡ 2 → unviewed b ≡ unviewed (manager_at s.managers n).buffer) → Stood kind i st x sent more here a s → Stood kind i st x sent more here a (with_buffer s n b)
 stood-buffered kind i st x sent more here a s n b begun l ne run same h = record {
   stands = buffered-stands kind i st false s (with_buffer s n b) n l (Changed b run same refl) h.stands;
-  spelled = record { vendor = h.spelled.vendor; product = h.spelled.product; revision = h.spelled.revision };
+  spelled = h.spelled;
   sure = sure-buffered kind i x more here a s n b ne begun h.sure;
   late = λ low. late-same kind x sent s (with_buffer s n b) refl (h.late low);
   dry = dry-buffered st s n b h.dry;

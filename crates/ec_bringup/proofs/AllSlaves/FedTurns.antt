@@ -136,7 +136,7 @@ module _ (ps : List SlavePlan) (fs : List Feed) (ends : ℕ → Config) (stages 
         record {
           stood = record {
             stands = subst (λ (x : Stage). Stands (kind_of i) i x false (served t)) (sym h.at) (stands-served (kind_of i) i (Up h.config) false t stands);
-            spelled = spelled-on (kind_of i).device s (served t) ((settles t).image ∙ ap (λ (x : Sii). x.image) (left-sii s t left)) w.stood.spelled;
+            spelled = spelled-on (kind_of i) s (served t) ((settles t).image ∙ ap (λ (x : Sii). x.image) (left-sii s t left)) w.stood.spelled;
             sure = sure-fed (kind_of i) i (stages i) (xs i) more here a s t fed (asks i l).0 (asks i l).1 (left-al s t left) (left-off s t left stood.slave.four)
                 (subst (λ (x : Stage). Stands (kind_of i) i x false t) (sym h.at) stands) w.stood.sure;
             late = λ low. absurd (running-high h.config.rise (h.rise e.2) (subst IsAskedInit h.at low));

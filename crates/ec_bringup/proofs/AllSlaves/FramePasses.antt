@@ -1,5 +1,5 @@
 -- A frame of a start-up past all slaves: where each stands, and what comes back.
-use Rattle.ec_bringup.proofs.Words.{ℕ, suc, ◌+◌, ◌-◌, ◌*◌, ◌/◌, ◌%◌, ◌<◌, ◌≤◌, ◌≡◌, ◌≢◌, Bool, true, false, refl, ◌∙◌, ap, subst, inl, inr, arith, List, [], ◌∷◌, length, slice_index, ◌^◌, ◌==◌, Option, sym, if◌then◌else◌, bit_or, from_bool, cases_eq, or_left, eq-eqb, zeros, Device, SlaveKind, ram_start, is_stored, Apwr, Bwr, Datagram, IsDatagram, adp_of, State, Init, state_number, SiiImage, SlaveState, Meeting, Window, byte_at, window_of, meets, slave_met, datagram_met, meets-keeps, other_position_passes, Action, CountSlaves, AskInit, AwaitInit, ClearFmmus, ClearManagers, ClearStations, NameSlave, AskWord, AwaitWord, SetManager, SetFmmu, AskState, AwaitState, SendRequest, AwaitReply, station, datagram_of, Stage, after, Up, Config, Talk, Stands, IsUpAt, Talks, Arrives, Met, IsBroadcast, IsWriting, IsSpelled, all_passed, all_met, served, inside_kept, shows_itself, if_true, Verdict, Next, Word, verdict, CanAct, sent, word_at, WantedDevice, AwaitInitState, ClearAllFmmus, ClearAllManagers, AssignSii, ClearSiiError, AwaitCleanInit, FeedPart, PreOp, SafeOp, Op, Rise, Falls, Stays, Climbs, Rises, has_firmware, or_mod, Hardware, None, is_missing, fmmu_count, ◌⊎◌, Al, both_ways, cases_lt, ne_eqb, if_false, is_init, IsStepUp, IsClimbing, HasFallen, Reached, ShowsLow, AwaitFreeReply, Again, Aside, Heard, steps_slow, Called}
+use Rattle.ec_bringup.proofs.Words.{ℕ, suc, ◌+◌, ◌-◌, ◌*◌, ◌/◌, ◌%◌, ◌<◌, ◌≤◌, ◌≡◌, ◌≢◌, Bool, true, false, refl, ◌∙◌, ap, subst, inl, inr, arith, List, [], ◌∷◌, length, slice_index, ◌^◌, ◌==◌, Option, sym, if◌then◌else◌, bit_or, from_bool, cases_eq, or_left, eq-eqb, zeros, Device, SlaveKind, ram_start, is_stored, Apwr, Bwr, Datagram, IsDatagram, adp_of, State, Init, state_number, SiiImage, SlaveState, Meeting, Window, byte_at, window_of, meets, slave_met, datagram_met, meets-keeps, other_position_passes, Action, CountSlaves, AskInit, AwaitInit, ClearFmmus, ClearManagers, ClearStations, NameSlave, AskWord, AwaitWord, SetManager, SetFmmu, AskState, AwaitState, SendRequest, AwaitReply, station, datagram_of, Stage, after, Up, Config, Talk, Stands, IsUpAt, Talks, Arrives, Met, IsBroadcast, IsWriting, IsOfType, all_passed, all_met, served, inside_kept, shows_itself, if_true, Verdict, Next, verdict, CanAct, sent, word_at, WantedDevice, AwaitInitState, ClearAllFmmus, ClearAllManagers, AssignSii, ClearSiiError, AwaitCleanInit, FeedPart, PreOp, SafeOp, Op, Rise, Falls, Stays, Climbs, Rises, has_firmware, or_mod, Hardware, None, is_missing, fmmu_count, ◌⊎◌, Al, both_ways, cases_lt, ne_eqb, if_false, is_init, IsStepUp, IsClimbing, HasFallen, Reached, ShowsLow, AwaitFreeReply, Again, Aside, Heard, steps_slow, Called, wanted_of}
 use Rattle.ec_bringup.specs.Stages.{IsAtInit, IsCalled}
 use Rattle.ec_bringup.proofs.OneSlave.Lacking.{has-above, has-below}
 use Rattle.ec_bringup.proofs.OneFrame.OtherSlaves.{IsOne, one-passes, ForAskState, ForAskWord, ForAwaitReply, ForAwaitFreeReply, ForAwaitState, ForAwaitCleanInit, ForAwaitWord, ForSend, ForSetFmmu, ForSetManager, IsFor, as_one}
@@ -13,7 +13,7 @@ use Rattle.ec_bringup.proofs.OneSlave.Dry.{DryAt, dry-after, dry-at-met, dry-at-
 use Rattle.ec_bringup.proofs.AllSlaves.Delays.{IsAskedInit, LateAt, IsPolled, reached-of, up-of, slow-firm, late-after, late-again}
 use Rattle.ec_bringup.proofs.AllSlaves.NextAction.{Prior, Prompted, Suits, Sure, IsPaced, next-sure, same-sure}
 use Rattle.ec_bringup.proofs.Mailbox.AwaitReply.{boxes-of}
-use Rattle.ec_bringup.proofs.OneFrame.Awaits.{Tells, await-clean-ends, await-clean-goes-on, await-state-ends, await-state-goes-on, await-word-ends, await-reply-ends, await-free-ends, await-free-goes-on}
+use Rattle.ec_bringup.proofs.OneFrame.Awaits.{Tells, IsTold, await-clean-ends, await-clean-goes-on, await-state-ends, await-state-goes-on, await-word-ends, await-reply-ends, await-free-ends, await-free-goes-on}
 use Rattle.ec_bringup.proofs.OneSlave.MailboxServed.{request-goes}
 
 -- a property of each slave by its place
@@ -23,19 +23,15 @@ Each P j (s ∷ ss) = P j s × Each P (j + 1) ss
 
 -- ---- the image of the SII stays
 
-pub spelled-on : (t : Device) (s r : SlaveState) → r.sii.image ≡ s.sii.image → IsSpelled t s → IsSpelled t r
-spelled-on t s r e h = record {
-  vendor = ap (λ (i : SiiImage). i.identity.vendor) e ∙ h.vendor;
-  product = ap (λ (i : SiiImage). i.identity.product) e ∙ h.product;
-  revision = ap (λ (i : SiiImage). i.identity.revision) e ∙ h.revision;
-}
+pub spelled-on : (kind : SlaveKind) (s r : SlaveState) → r.sii.image ≡ s.sii.image → IsOfType kind s.sii.image.identity → IsOfType kind r.sii.image.identity
+spelled-on kind s r e h = subst (λ (i : SiiImage). IsOfType kind i.identity) (sym e) h
 
 -- ---- where each slave stands
 
 -- a slave that the whole frame has passed
 pub record After (kind : SlaveKind) (i : ℕ) (st : Stage) (x : Al) (n next : ℕ) (a b : Action) (end : Datagram) (t : SlaveState) : Type 0 where
   pub met : Met kind i st false a end t
-  pub spelled : IsSpelled kind.device t
+  pub spelled : IsOfType kind t.sii.image.identity
   pub sure : Stands kind i (after i st a) false t → Sure kind i x next 0 b (served t)
   pub late : Stands kind i (after i st a) false t → LateAt kind x (n + 1) (after i st a) (served t)
   pub dry : Stands kind i (after i st a) false t → DryAt (after i st a) (served t)
@@ -43,7 +39,7 @@ pub record After (kind : SlaveKind) (i : ℕ) (st : Stage) (x : Al) (n next : �
 -- and where the wait goes on
 pub record Still (kind : SlaveKind) (i : ℕ) (st : Stage) (x : Al) (n more here : ℕ) (a : Action) (end : Datagram) (t : SlaveState) : Type 0 where
   pub met : Met kind i st false a end t
-  pub spelled : IsSpelled kind.device t
+  pub spelled : IsOfType kind t.sii.image.identity
   pub sure : Stands kind i st false t → Sure kind i x more (here + 1) a (served t)
   pub late : Stands kind i st false t → LateAt kind x (n + 1) st (served t)
   pub dry : Stands kind i st false t → DryAt st (served t)
@@ -165,7 +161,7 @@ module _ (kinds : ℕ → SlaveKind) (stages : ℕ → Stage) (xs : ℕ → Al) 
       let suit = suits j (omega arith) in (
         record {
           met = later-all a j (j + 1) ss (datagram_met s d) (slave_met s d) (omega arith) here0.1 here0.0;
-          spelled = spelled-on (kinds j).device s (slave_met s d) (inside_kept s d).image prior.spelled;
+          spelled = spelled-on (kinds j) s (slave_met s d) (inside_kept s d).image prior.spelled;
           sure = next-sure (kinds j) j (stages j) (xs j) n more here next number d s (slave_met s d) l refl a b suit.0 p suit.1 prior h.arrives;
           late = λ k. late-after (kinds j) j number d s l h.good (stages j) (xs j) n a prior.fits h.arrives prior.stands k
               (λ e. (one e, subst (λ (y : Action). Sure (kinds j) j (xs j) more here y s) e prior.sure)) prior.late;
@@ -184,7 +180,7 @@ module _ (kinds : ℕ → SlaveKind) (stages : ℕ → Stage) (xs : ℕ → Al) 
       let l : j < 64 = omega (arith, h.few) in (
         record {
           met = later-all a j (j + 1) ss (datagram_met s d) (slave_met s d) (omega arith) here0.1 here0.0;
-          spelled = spelled-on (kinds j).device s (slave_met s d) (inside_kept s d).image prior.spelled;
+          spelled = spelled-on (kinds j) s (slave_met s d) (inside_kept s d).image prior.spelled;
           sure = λ k. same-sure (kinds j) j (stages j) (xs j) n more here number d s l h.good a p h.arrives prior k;
           late = λ k. late-again (kinds j) j number d s l h.good (stages j) (xs j) n more here a p prior.fits h.arrives prior.stands k prior.late;
           dry = λ k. dry-at-served (stages j) (slave_met s d) k.slave.four (dry-at-met (stages j) s d prior.dry);
@@ -297,9 +293,9 @@ module _ (kinds : ℕ → SlaveKind) (stages : ℕ → Stage) (xs : ℕ → Al) 
 -- ---- the verdict on a frame that passed all slaves undisturbed: the action is done, or the wait goes on
 
 -- what comes back where nothing disturbs
-abbrev pub wanted : (ℕ → WantedDevice) → Action → Verdict
-wanted types (AwaitWord t which) = Word (word_of (types t).device which)
-wanted types _ = Next
+abbrev pub IsWanted : (ℕ → WantedDevice) → Action → Verdict → Type 0
+IsWanted types (AwaitWord t which) v = IsTold (types t) which v
+IsWanted types _ v = v ≡ Next
 
 -- the slave that it is for is there, and it is of a table with `hardware` or without
 abbrev pub IsInside : Bool → ℕ → Action → Type 0
@@ -427,13 +423,13 @@ module _ (kinds : ℕ → SlaveKind) (stages : ℕ → Stage) (xs : ℕ → Al) 
       (λ x k. own-prior (kinds t) t (xs t) n more here number a (stages t) x _ (as_one number is) (λ c. own c x) k) (omega arith) (omega (arith, l)) h
 
   one-ends : (a : Action) (t : ℕ) (is : IsFor t a) → t < length (s ∷ ss) → Ahead kinds stages xs n more here number a 0 (s ∷ ss) (datagram_of a number)
-      → ((c : Config) (x : SlaveState) → t < 64 → Prior (kinds t) t (Up c) (xs t) n more here a x → IsUpAt t c x → CanAct c a → verdict (length (s ∷ ss)) step seen types a (datagram_met x (as_one number is).e) ≡ wanted types a)
-      → verdict (length (s ∷ ss)) step seen types a (all_passed (s ∷ ss) (datagram_of a number)) ≡ wanted types a
-  one-ends a t is l h own = one-made a t is (λ v. v ≡ wanted types a) l h own
+      → ((c : Config) (x : SlaveState) → t < 64 → Prior (kinds t) t (Up c) (xs t) n more here a x → IsUpAt t c x → CanAct c a → IsWanted types a (verdict (length (s ∷ ss)) step seen types a (datagram_met x (as_one number is).e)))
+      → IsWanted types a (verdict (length (s ∷ ss)) step seen types a (all_passed (s ∷ ss) (datagram_of a number)))
+  one-ends a t is l h own = one-made a t is (λ v. IsWanted types a v) l h own
 
-  pub comes-back : (a : Action) → ((t : ℕ) → t < length (s ∷ ss) → (types t).device ≡ (kinds t).device) → ((t which : ℕ) → t < length (s ∷ ss) → word_of (types t).device which < 2 ^ 32)
+  pub comes-back : (a : Action) → ((t : ℕ) → t < length (s ∷ ss) → types t ≡ wanted_of (kinds t)) → ((t which : ℕ) → t < length (s ∷ ss) → word_of (types t).device which < 2 ^ 32)
       → (hw ≡ false → (i : ℕ) → i < length (s ∷ ss) → (kinds i).hardware ≡ None) → IsInside hw (length (s ∷ ss)) a → Told types seen a → IsDue kinds xs (length (s ∷ ss)) n more here a → Ahead kinds stages xs n more here number a 0 (s ∷ ss) (datagram_of a number)
-      → verdict (length (s ∷ ss)) step seen types a (all_passed (s ∷ ss) (datagram_of a number)) ≡ wanted types a
+      → IsWanted types a (verdict (length (s ∷ ss)) step seen types a (all_passed (s ∷ ss) (datagram_of a number)))
   comes-back CountSlaves same big bare inside told due h = right _ _ _ _ (all-count kinds stages xs n more here number CountSlaves (s ∷ ss) refl (λ i x d b p k. look-step x d number k) h)
   comes-back AskInit same big bare inside told due h =
       right _ _ _ _ (write-count kinds stages xs n more here number AskInit 0x0120 (0x11 ∷ 0 ∷ []) (s ∷ ss) refl (λ i x q. q) (omega arith) (omega arith) refl (λ i x b p. has-below x.kind.hardware 0x0120 (omega arith)) h)
@@ -452,7 +448,7 @@ module _ (kinds : ℕ → SlaveKind) (stages : ℕ → Stage) (xs : ℕ → Al) 
   comes-back ClearSiiError same big bare inside told due h = refl
   comes-back (FeedPart f) same big bare inside told due h = absurd inside
   comes-back (AwaitCleanInit t) same big bare inside told due h =
-      one-ends _ t (ForAwaitCleanInit t) inside.0 h (λ c x l k u can. await-clean-ends (length (s ∷ ss)) step seen types x t number u.configured.station_is l (clean-state (kinds t) t c x u can)
+      one-ends (AwaitCleanInit t) t (ForAwaitCleanInit t) inside.0 h (λ c x l k u can. await-clean-ends (length (s ∷ ss)) step seen types x t number u.configured.station_is l (clean-state (kinds t) t c x u can)
       (clean-error (kinds t) t c (xs t) n more here x k u can due))
   comes-back ClearFmmus same big bare inside told due h =
       right _ _ _ _ (write-count kinds stages xs n more here number ClearFmmus 0x0600 (zeros 64) (s ∷ ss) refl (λ i x q. q) (omega arith) (omega arith) refl
@@ -464,27 +460,27 @@ module _ (kinds : ℕ → SlaveKind) (stages : ℕ → Stage) (xs : ℕ → Al) 
   comes-back (NameSlave t) same big bare inside told due h =
       right _ 1 _ _ (name-reach kinds stages xs n more here number t 0 (s ∷ ss) (datagram_of (NameSlave t) number) (omega (arith, inside, h.few)) (omega arith) (omega (arith, inside)) refl h)
   comes-back (AskWord t n) same big bare inside told due h =
-      one-ends _ t (ForAskWord t n) inside.0 h (λ c x l k u can. right _ 1 _ _ (ask-word-goes x t n number u.configured.station_is l k.sure))
+      one-ends (AskWord t n) t (ForAskWord t n) inside.0 h (λ c x l k u can. right _ 1 _ _ (ask-word-goes x t n number u.configured.station_is l k.sure))
   comes-back (AwaitWord t n) same big bare inside told due h =
-      one-ends _ t (ForAwaitWord t n) inside.0 h (λ c x l k u can. await-word-ends (length (s ∷ ss)) step seen types x t n number u.configured.station_is l inside.1 (big t n inside.0) told
-      (subst (λ (y : Device). HasFound (word_of y n) x.sii) (sym (same t inside.0)) (k.sure refl)))
+      one-ends (AwaitWord t n) t (ForAwaitWord t n) inside.0 h (λ c x l k u can. await-word-ends (length (s ∷ ss)) step seen types x t n number u.configured.station_is l inside.1 (big t n inside.0) told
+      (subst (λ (y : WantedDevice). HasFound y n x.sii) (sym (same t inside.0)) (k.sure refl)))
   comes-back (SetManager t n m r) same big bare inside told due h =
-      one-ends _ t (ForSetManager t n m r) inside.0 h (λ c x l k u can. right _ 1 _ _ (set-manager-goes x t n m r number u.configured.station_is l inside.1))
+      one-ends (SetManager t n m r) t (ForSetManager t n m r) inside.0 h (λ c x l k u can. right _ 1 _ _ (set-manager-goes x t n m r number u.configured.station_is l inside.1))
   comes-back (SetFmmu t n f start) same big bare inside told due h =
-      one-ends _ t (ForSetFmmu t n f start) inside h (λ c x l k u can. right _ 1 _ _ (set-fmmu-goes x t n f start number u.configured.station_is l (omega (arith, can.1, can.2))
+      one-ends (SetFmmu t n f start) t (ForSetFmmu t n f start) inside h (λ c x l k u can. right _ 1 _ _ (set-fmmu-goes x t n f start number u.configured.station_is l (omega (arith, can.1, can.2))
       (subst (λ (y : SlaveKind). n < fmmu_count y.hardware) (sym k.stands.slave.kind_is) (k.named refl).1)))
   comes-back (AskState t to) same big bare inside told due h =
-      one-ends _ t (ForAskState t to) inside h (λ c x l k u can. right _ 1 _ _ (ask-state-goes x t to number u.configured.station_is l))
+      one-ends (AskState t to) t (ForAskState t to) inside h (λ c x l k u can. right _ 1 _ _ (ask-state-goes x t to number u.configured.station_is l))
   comes-back (AwaitState t to) same big bare inside told due h =
-      one-ends _ t (ForAwaitState t to) inside h (λ c x l k u can. await-state-ends (length (s ∷ ss)) step seen types x t to number u.configured.station_is l ((k.sure refl).1 (omega (arith, due))))
+      one-ends (AwaitState t to) t (ForAwaitState t to) inside h (λ c x l k u can. await-state-ends (length (s ∷ ss)) step seen types x t to number u.configured.station_is l ((k.sure refl).1 (omega (arith, due))))
   comes-back (SendRequest t n b r) same big bare inside told due h =
-      one-ends _ t (ForSend t n b r) inside h
+      one-ends (SendRequest t n b r) t (ForSend t n b r) inside h
       (λ c x l k u can. right _ 1 _ _ (request-goes x t n c b r number u.configured.station_is l k.stands.slave.four can.2 u (subst (λ (o : Option Talk). Talks t c o x) can.1 u.talks).no_message))
   comes-back (AwaitReply t b r) same big bare inside told due h =
-      one-ends _ t (ForAwaitReply t b r) inside.0 h
+      one-ends (AwaitReply t b r) t (ForAwaitReply t b r) inside.0 h
       (λ c x l k u can. await-reply-ends (length (s ∷ ss)) step seen types x t b r number u.configured.station_is l (boxes-of t b c x k.stands.slave.four can.2 u) (k.sure refl))
   comes-back (AwaitFreeReply t b r) same big bare inside told due h =
-      one-ends _ t (ForAwaitFreeReply t b r) inside.0 h
+      one-ends (AwaitFreeReply t b r) t (ForAwaitFreeReply t b r) inside.0 h
       (λ c x l k u can. await-free-ends (length (s ∷ ss)) step seen types x t b r number u.configured.station_is l (boxes-of t b c x k.stands.slave.four can.2 u) ((k.sure refl).1 due))
 
   -- a wait goes on

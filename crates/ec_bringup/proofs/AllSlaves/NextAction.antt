@@ -1,5 +1,5 @@
 -- What the firmware steps after a frame prepare for the next action.
-use Rattle.ec_bringup.proofs.Words.{ℕ, zero, suc, ◌+◌, ◌*◌, ◌%◌, ◌<◌, ◌≤◌, ◌≡◌, ◌==◌, ◌||◌, not, true, false, Option, Some, None, is_some, refl, sym, ◌∙◌, ap, subst, inl, inr, arith, if◌then◌else◌, List, [], ◌∷◌, length, both_ways, cases_lt, eq-eqb, and_from, and_left, le-ltb, if_true, if_false, Bool, Mailbox, SlaveKind, SyncManager, SyncManagerSettings, SafeOp, Fpwr, Fprd, Datagram, IsDatagram, adp_of, State, Init, PreOp, Op, state_number, Al, requesting, read_command, SlaveState, station_of, manager_at, Window, touches, physical_after, Meeting, slave_met, settles, may_read, zeros, window_of, inside_kept, checks_of, served, settings_at, is_set, is_mailbox, is_master_read, message_length, Action, CountSlaves, AskInit, AwaitInit, AwaitInitState, AwaitCleanInit, AskWord, AwaitWord, AskState, AwaitState, SendRequest, AwaitReply, AwaitFreeReply, SdoRequest, station, sent, word_address_of, filled, request_bytes, Rise, Falls, Stays, Climbs, Config, Stage, Up, Talk, config_after, climbing, after, Fits, CanClimb, IsClimbing, IsOfKind, IsIn, Rises, IsAsked, IsAssigned, IsSent, IsSilent, Talks, IsUpAt, Stands, Arrives, IsSpelled, IsNamed, AreMailboxes, wrote, Hardware, has_firmware, has_emergency, has_some, is_aside, is_init, emergency_bytes, greeting_of, left_to_say, steps_slow}
+use Rattle.ec_bringup.proofs.Words.{ℕ, zero, suc, ◌+◌, ◌*◌, ◌%◌, ◌<◌, ◌≤◌, ◌≡◌, ◌==◌, ◌||◌, not, true, false, Option, Some, None, is_some, refl, sym, ◌∙◌, ap, subst, inl, inr, arith, if◌then◌else◌, List, [], ◌∷◌, length, both_ways, cases_lt, eq-eqb, and_from, and_left, le-ltb, if_true, if_false, Bool, Mailbox, SlaveKind, SyncManager, SyncManagerSettings, SafeOp, Fpwr, Fprd, Datagram, IsDatagram, adp_of, State, Init, PreOp, Op, state_number, Al, requesting, read_command, SlaveState, station_of, manager_at, Window, touches, physical_after, Meeting, slave_met, settles, may_read, zeros, window_of, inside_kept, checks_of, served, settings_at, is_set, is_mailbox, is_master_read, message_length, Action, CountSlaves, AskInit, AwaitInit, AwaitInitState, AwaitCleanInit, AskWord, AwaitWord, AskState, AwaitState, SendRequest, AwaitReply, AwaitFreeReply, SdoRequest, station, sent, word_address_of, filled, request_bytes, Rise, Falls, Stays, Climbs, Config, Stage, Up, Talk, config_after, climbing, after, Fits, CanClimb, IsClimbing, IsOfKind, IsIn, Rises, IsAsked, IsAssigned, IsSent, IsSilent, Talks, IsUpAt, Stands, Arrives, IsOfType, IsNamed, AreMailboxes, wrote, Hardware, has_firmware, has_emergency, has_some, is_aside, is_init, emergency_bytes, greeting_of, left_to_say, steps_slow, wanted_of}
 use Rattle.ec_bringup.proofs.OneFrame.OtherSlaves.{IsFor, as_one, ForAskWord, ForAskState, ForAwaitState, ForAwaitFreeReply, ForSend}
 use Rattle.ec_bringup.proofs.Script.Walks.{BearsAt}
 use Rattle.ec_bringup.proofs.Script.FedSteps.{IsRunning, climbing-runs}
@@ -11,7 +11,7 @@ use Rattle.ec_bringup.proofs.OneSlave.Alike.{left-done, left-same}
 use Rattle.ec_bringup.proofs.OneSlave.Dry.{DryAt}
 use Rattle.ec_bringup.proofs.OneSlave.AwaitedKept.{awaited-kept}
 use Rattle.ec_bringup.proofs.OneSlave.MailboxServed.{IsGood, replied, full-rests}
-use Rattle.ec_bringup.proofs.OneFrame.Commands.{Passes, IsThere, Unawaited, granted, word_of, HasFound, word-found}
+use Rattle.ec_bringup.proofs.OneFrame.Commands.{Passes, IsThere, Unawaited, granted, HasFound, word-found}
 use Rattle.ec_bringup.proofs.OneFrame.Awaits.{HasReply, Greets}
 use Rattle.ec_bringup.proofs.OneFrame.FrameLaw.{look}
 use Rattle.ec_bringup.proofs.AllSlaves.Delays.{LateAt, up-of, slow-is, quick-is, rested, waited-on, own-read, IsPolled}
@@ -72,7 +72,7 @@ abbrev pub Sure : SlaveKind → ℕ → Al → (more here : ℕ) → Action → 
 Sure kind i x more here CountSlaves s = (served s).al ≡ x
 Sure kind i x more here AskInit s = s.al ≡ x
 Sure kind i x more here (AskWord t which) s = s.sii.busy ≡ false
-Sure kind i x more here (AwaitWord t which) s = t ≡ i → HasFound (word_of kind.device which) s.sii
+Sure kind i x more here (AwaitWord t which) s = t ≡ i → HasFound (wanted_of kind) which s.sii
 Sure kind i x more here (AwaitState t to) s = t ≡ i → ClimbsBy kind to (here + 1) s
 Sure kind i x more here (AwaitReply t b r) s = t ≡ i → HasReply false t r b.send_size s
 Sure kind i x more here (AwaitFreeReply t b r) s = t ≡ i → (here < more → Greets b.send_size s) × (more ≤ here → HasReply true t r b.send_size s)
@@ -115,7 +115,7 @@ IsPaced kind i a _ more = Unit {0}
 
 pub record Prior (kind : SlaveKind) (i : ℕ) (st : Stage) (x : Al) (n more here : ℕ) (a : Action) (s : SlaveState) : Type 0 where
   pub stands : Stands kind i st false s
-  pub spelled : IsSpelled kind.device s
+  pub spelled : IsOfType kind s.sii.image.identity
   pub fits : Fits i st a
   pub bless : Bless kind i st a
   pub sure : Sure kind i x more here a s
@@ -139,14 +139,14 @@ own-slave s t i ado bytes number d e l q m =
 -- ---- a word of the SII
 
 next-word : (kind : SlaveKind) (i which : ℕ) (c : Config) (x : Al) (n more here number : ℕ) (d : Datagram) (s t : SlaveState) → i < 64 → Prior kind i (Up c) x n more here (AskWord i which) s → Arrives (AskWord i which) number i d
-    → t ≡ slave_met s d → HasFound (word_of kind.device which) (served t).sii
+    → t ≡ slave_met s d → HasFound (wanted_of kind) which (served t).sii
 next-word kind i which c x n more here number d s t l h arrives m =
     let u : IsUpAt i c s = up-of kind i c s h.stands in
     let n6 : length (read_command (word_address_of which)) ≡ 6 = refl in
     let q : t ≡ physical_after s false true (record { from = 0x0502; bytes = read_command (word_address_of which) })
     = own-slave s t i 0x0502 (read_command (word_address_of which)) number d u.configured.station_is l (arrives.to_come (omega arith)) m in
     let w = wrote s (record { from = 0x0502; bytes = read_command (word_address_of which) }) (omega (arith, n6)) in
-    word-found kind.device s t which (h.bless (ForAskWord i which)) h.sure h.spelled (ap (λ (x : SlaveState). x.sii) q ∙ w.sii)
+    word-found kind s t which (h.bless (ForAskWord i which)) h.sure h.spelled (ap (λ (x : SlaveState). x.sii) q ∙ w.sii)
 
 -- ---- a state
 

@@ -1,9 +1,9 @@
 -- The polls of a start-up at a slave that has what is waited for: one poll ends the wait.
-use Rattle.ec_bringup.proofs.Words.{ℕ, zero, suc, ◌+◌, ◌*◌, ◌%◌, ◌^◌, ◌<◌, ◌≤◌, ◌≡◌, ◌==◌, ◌&&◌, not, Bool, true, false, Some, refl, sym, ◌∙◌, ap, arith, List, length, slice_index, is_some, bit_at, to_le_bytes, w32, from_bool, from_le_bytes-to_le_bytes_4, eq-eqb, and_from, length-replicate, zeros, if_true, if_false, Device, Mailbox, ram_start, Fprd, adp_of, State, Init, state_number, may_read, SlaveState, station_of, manager_at, Window, byte_at, byte_read, updated, some_byte_read, window_of, datagram_met, message_read, AwaitWord, AwaitState, AwaitCleanInit, AwaitReply, AwaitFreeReply, SdoRequest, Datagram, PreOp, SafeOp, Op, IsStepUp, is_aside, raw_verdict, free_verdict, heard_in, Heard, MayRepeat, inr, WantedDevice, or_right, station, sent, datagram_of, Next, Word, Again, Aside, with_word, is_device, word_at, long_at, word_verdict, message_verdict, verdict, shows_itself}
+use Rattle.ec_bringup.proofs.Words.{ℕ, zero, suc, ◌+◌, ◌*◌, ◌%◌, ◌^◌, ◌<◌, ◌≤◌, ◌≡◌, ◌==◌, ◌&&◌, not, Bool, true, false, Some, refl, sym, ◌∙◌, ap, arith, List, length, slice_index, is_some, bit_at, to_le_bytes, w32, from_bool, from_le_bytes-to_le_bytes_4, eq-eqb, and_from, length-replicate, zeros, if_true, if_false, Device, Mailbox, ram_start, Fprd, adp_of, State, Init, state_number, may_read, SlaveState, station_of, manager_at, Window, byte_at, byte_read, updated, some_byte_read, window_of, datagram_met, message_read, AwaitWord, AwaitState, AwaitCleanInit, AwaitReply, AwaitFreeReply, SdoRequest, Datagram, PreOp, SafeOp, Op, IsStepUp, is_aside, raw_verdict, free_verdict, heard_in, Heard, MayRepeat, inr, WantedDevice, or_right, station, sent, datagram_of, Next, Word, Again, Aside, with_word, is_device, word_at, long_at, word_verdict, message_verdict, verdict, shows_itself, ◌||◌, or_left, Verdict}
 use Rattle.ec_bringup.proofs.OneFrame.RegisterWrites.{window-sent}
 use Rattle.ec_bringup.proofs.OneFrame.RegisterPolls.{read-byte, read-bytes, register-shows}
 use Rattle.ec_bringup.proofs.Mailbox.AwaitReply.{Boxes, asking, read-counter, some-read, raw-read}
-use Rattle.ec_bringup.proofs.OneFrame.Commands.{IsThere, HasFound, word_of}
+use Rattle.ec_bringup.proofs.OneFrame.Commands.{IsThere, HasFound, IsWord, word_of}
 
 -- byte k of the data that comes back
 back : (s : SlaveState) (i ado n number k : ℕ) → station_of s ≡ station i → i < 64 → ado + n ≤ ram_start → k < n
@@ -57,32 +57,51 @@ Tells t s zero = Unit {0}
 Tells t s (suc zero) = s.vendor ≡ t.vendor
 Tells t s (suc (suc which)) = (s.vendor ≡ t.vendor) × (s.product ≡ t.product)
 
-fits : (t : WantedDevice) (s : Device) (which : ℕ) → which < 3 → Tells t.device s which → ((which == 2) && not (is_device t (with_word s which (word_of t.device which)))) ≡ false
-fits t s (suc (suc zero)) l h =
-    ap not (and_from _ _ (eq-eqb t.device.vendor s.vendor (sym h.0)) (and_from _ _ (eq-eqb t.device.product s.product (sym h.1)) (or_right t.any_revision _ (eq-eqb t.device.revision t.device.revision refl))))
-fits t s (suc (suc (suc which))) l h = absurd (omega (arith, l))
-fits t s _ l h = refl
+-- a type that names no revision takes any
+takes : (any : Bool) (named value : ℕ) → (any ≡ false → value ≡ named) → (any || (named == value)) ≡ true
+takes true named value h = or_left true (named == value) refl
+takes false named value h = or_right false (named == value) (eq-eqb named value (sym (h refl)))
 
-pub word-ends : (t : WantedDevice) (seen : Device) (i which : ℕ) (bytes : List ℕ) → which < 3 → Tells t.device seen which → word_at bytes 0 ≡ 0 → long_at bytes 6 ≡ word_of t.device which
-    → word_verdict t seen i which bytes ≡ Word (word_of t.device which)
-word-ends t seen i which bytes l h z e =
+fits : (t : WantedDevice) (s : Device) (which value : ℕ) → which < 3 → Tells t.device s which → IsWord t which value → ((which == 2) && not (is_device t (with_word s which value))) ≡ false
+fits t s (suc (suc zero)) value l h w =
+    ap not (and_from _ _ (eq-eqb t.device.vendor s.vendor (sym h.0)) (and_from _ _ (eq-eqb t.device.product s.product (sym h.1)) (takes t.any_revision t.device.revision value w)))
+fits t s (suc (suc (suc which))) value l h w = absurd (omega (arith, l))
+fits t s _ value l h w = refl
+
+word-ends : (t : WantedDevice) (seen : Device) (i which : ℕ) (bytes : List ℕ) → which < 3 → Tells t.device seen which → word_at bytes 0 ≡ 0 → IsWord t which (long_at bytes 6)
+    → word_verdict t seen i which bytes ≡ Word (long_at bytes 6)
+word-ends t seen i which bytes l h z w =
     if_false _ _ _ (ap (λ (x : ℕ). bit_at x 13 == 1) z)
     ∙ (if_false _ _ _ (ap (λ (x : ℕ). bit_at x 15 == 1) z)
-    ∙ (if_false _ _ _ (ap (λ (x : ℕ). (which == 2) && not (is_device t (with_word seen which x))) e ∙ fits t seen which l h)
-    ∙ ap (λ (x : ℕ). Word x) e))
+    ∙ if_false _ _ _ (fits t seen which (long_at bytes 6) l h w))
+
+-- the word that comes back is the one that the port found, as far as the type names it
+word-back : (t : WantedDevice) (which found value : ℕ) → word_of t.device which < 2 ^ 32 → ((n : ℕ) → n < 2 ^ 32 → found ≡ n → value ≡ n) → IsWord t which found → IsWord t which value
+word-back t zero found value big back h = back t.device.vendor big h
+word-back t (suc zero) found value big back h = back t.device.product big h
+word-back t (suc (suc which)) found value big back h = λ named. back t.device.revision big (h named)
+
+-- the verdict of a word that fits
+abbrev pub IsTold : WantedDevice → ℕ → Verdict → Type 0
+IsTold t which v = (value : ℕ) × IsWord t which value × (v ≡ Word value)
 
 pub await-word-ends : (n step : ℕ) (seen : Device) (types : ℕ → WantedDevice) (s : SlaveState) (i which : ℕ) (number : ℕ) → station_of s ≡ station i → i < 64 → which < 3
-    → word_of (types i).device which < 2 ^ 32 → Tells (types i).device seen which → HasFound (word_of (types i).device which) s.sii
-    → verdict n step seen types (AwaitWord i which) (datagram_met s (datagram_of (AwaitWord i which) number)) ≡ Word (word_of (types i).device which)
+    → word_of (types i).device which < 2 ^ 32 → Tells (types i).device seen which → HasFound (types i) which s.sii
+    → IsTold (types i) which (verdict n step seen types (AwaitWord i which) (datagram_met s (datagram_of (AwaitWord i which) number)))
 await-word-ends n step seen types s i which number e l w big told h =
     let low : slice_index (datagram_met s (datagram_of (AwaitWord i which) number)).data_bytes 0 ≡ 0 = back s i 0x0502 10 number 0 e l (omega arith) (omega arith) ∙ (shows_itself s).sii_low in
     let high : slice_index (datagram_met s (datagram_of (AwaitWord i which) number)).data_bytes 1 ≡ 0
     = back s i 0x0502 10 number 1 e l (omega arith) (omega arith) ∙ ((shows_itself s).sii_high ∙ (ap (λ (x : Bool). from_bool x + 32 * from_bool s.sii.error + 128 * from_bool x) h.idle ∙ ap (λ (x : Bool). 0 + 32 * from_bool x + 128 * 0) h.no_error)) in
-    if_true _ _ _ (eq-eqb _ 1 (register-shows s i 0x0502 (zeros 10) number 0 e l (omega arith) (omega arith)))
-    ∙ word-ends (types i) seen i which (datagram_met s (datagram_of (AwaitWord i which) number)).data_bytes w told
-    (omega (arith, low, high))
-    (long-spells (datagram_met s (datagram_of (AwaitWord i which) number)).data_bytes (word_of (types i).device which) big
-    (λ j b. back s i 0x0502 10 number (6 + j) e l (omega arith) (omega (arith, b)) ∙ (moved j ∙ ((shows_itself s).sii_found j b ∙ ap (λ (x : ℕ). slice_index (to_le_bytes w32 x) j) h.found_is))))
+    let bytes : List ℕ = (datagram_met s (datagram_of (AwaitWord i which) number)).data_bytes in
+    let word : IsWord (types i) which (long_at bytes 6)
+    = word-back (types i) which s.sii.found (long_at bytes 6) big
+    (λ n few is. long-spells bytes n few
+    (λ j b. back s i 0x0502 10 number (6 + j) e l (omega arith) (omega (arith, b)) ∙ (moved j ∙ ((shows_itself s).sii_found j b ∙ ap (λ (x : ℕ). slice_index (to_le_bytes w32 x) j) is)))) h.found_is in (
+      long_at bytes 6,
+      word,
+      if_true _ _ _ (eq-eqb _ 1 (register-shows s i 0x0502 (zeros 10) number 0 e l (omega arith) (omega arith)))
+          ∙ word-ends (types i) seen i which bytes w told (omega (arith, low, high)) word,
+    )
   where
     moved : (j : ℕ) → byte_at s (0x0502 + (6 + j)) ≡ byte_at s (0x0508 + j)
     moved j = let q : 0x0502 + (6 + j) ≡ 0x0508 + j = omega arith in ap (byte_at s) q

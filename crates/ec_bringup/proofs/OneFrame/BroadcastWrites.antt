@@ -1,5 +1,5 @@
 -- The broadcasts of a start-up at any slave.
-use Rattle.ec_bringup.proofs.Words.{ℕ, suc, ◌+◌, ◌-◌, ◌*◌, ◌/◌, ◌%◌, ◌<◌, ◌≡◌, Bool, true, false, refl, sym, ◌∙◌, ap, subst, inl, arith, List, [], ◌∷◌, length, slice_index, or_left, or_right, zeros, if_true, if_false, within_true, within_below, within_above, SlaveKind, no_settings, SyncManager, empty_manager, Command, Bwr, Datagram, adp_of, ado_of, Al, requesting, role_of, adp_after, is_reading, is_writing, SlaveState, manager_at, station_of, Window, touches, physical_after, is_configured, window_of, slave_met, datagram_met, Action, datagram_of, Stage, Called, Down, after, HoldsZeros, IsInInit, AreClear, Stands, IsWriting, IsOther, MayRepeat, Met, Wrote, set_by, wrote, unconfigured, OnlyWrites, writes_meet, goes_on, sent, zero, ◌≤◌, inr, Option, None, unwrap_or, get_or, cases_Bool, cases_eq, cases_lt, length-replicate, Lowered, IsOfKind, HasFallen, AreNumbered, is_missing, no_manager, unviewed, Sii, written, is_stored_at, accesses_leave, updated_by_index, managers_clear, on_left, Hardware}
+use Rattle.ec_bringup.proofs.Words.{ℕ, suc, ◌+◌, ◌-◌, ◌*◌, ◌/◌, ◌%◌, ◌<◌, ◌≡◌, Bool, true, false, refl, sym, ◌∙◌, ap, subst, inl, arith, List, [], ◌∷◌, length, slice_index, or_left, or_right, zeros, if_true, if_false, within_true, within_below, within_above, SlaveKind, no_settings, SyncManager, configured, Command, Bwr, Datagram, adp_of, ado_of, Al, requesting, role_of, adp_after, is_reading, is_writing, SlaveState, manager_at, station_of, Window, touches, physical_after, is_configured, window_of, slave_met, datagram_met, Action, datagram_of, Stage, Called, Down, after, HoldsZeros, IsInInit, AreClear, Stands, IsWriting, IsOther, MayRepeat, Met, Wrote, set_by, wrote, unconfigured, OnlyWrites, writes_meet, goes_on, sent, zero, ◌≤◌, inr, Option, None, unwrap_or, get_or, cases_Bool, cases_eq, cases_lt, length-replicate, Lowered, IsOfKind, HasFallen, AreNumbered, is_missing, no_manager, unviewed, Sii, written, is_stored_at, accesses_leave, updated_by_index, managers_clear, on_left, Hardware}
 use Rattle.ec_bringup.proofs.OneSlave.Reset.{get_or-zeros}
 use Rattle.ec_bringup.proofs.OneFrame.RegisterWrites.{slave-wrote, objects-wrote, identity-wrote, window-sent}
 use Rattle.ec_bringup.proofs.OneSlave.Alike.{SameFront, SameFronts, front-refl, Alike, word_of, gone-on, init-alike, fallen-alike, reached-low, stands-alike}
@@ -158,7 +158,7 @@ managers-cleared count = record { from = 0x0800; bytes = zeros count }
 
 -- Zeros over the registers of all managers clear each, whatever number it has: each setting becomes 0, or stays where it is no
 -- setting.
-cleared-by : (o : Option Hardware) (count n : ℕ) (m : SyncManager) → AreNumbered o → 32 ≤ count → n < 4 → set_by o (managers-cleared count) n m ≡ empty_manager no_settings m.locked
+cleared-by : (o : Option Hardware) (count n : ℕ) (m : SyncManager) → AreNumbered o → 32 ≤ count → n < 4 → set_by o (managers-cleared count) n m ≡ configured m no_settings
 cleared-by o count n m numbered some l = managers_clear o (zeros count) n m numbered (let long : length (zeros count) ≡ count = length-replicate {A = ℕ} count 0 in omega (arith, long, some)) (λ k b. get_or-zeros count k) l
 
 clears-managers : (kind : SlaveKind) (s : SlaveState) (count : ℕ) → 32 ≤ count → 0x0800 + count ≤ 0x1000 → AreNumbered s.kind.hardware → length s.managers ≡ 4

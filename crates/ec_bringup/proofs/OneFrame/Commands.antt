@@ -1,5 +1,5 @@
 -- The commands of a start-up at their slave: each counts 1, and what the firmware step after it makes of it.
-use Rattle.ec_bringup.proofs.Words.{ℕ, zero, suc, ◌+◌, ◌-◌, ◌*◌, ◌/◌, ◌%◌, ◌<◌, ◌≤◌, ◌≡◌, ◌&&◌, not, Bool, true, false, List, Option, Some, None, Ok, refl, sym, ◌∙◌, ap, subst, arith, [], ◌∷◌, length, or_left, and_left, le-leb, if_true, if_false, SyncManagerSettings, FmmuSettings, Device, device_of, is_stored, takes_writes, manager_bytes, fmmu_bytes, State, Init, PreOp, SafeOp, Op, Checks, state_number, answer, requested_by, acknowledges, Al, sii_image_word_at as word_at, size_of, Sii, written, read_command, SlaveState, station_of, datagram_met, control_word, checks_of, served, AskWord, SetManager, SetFmmu, ManagerRegister, AskState, station, datagram_of, word_address_of, IsStepUp, IsAsked, IsSpelled, settles, Hardware, has_firmware, al_decided, is_awaiting, is_safeop, manager_at, requested_number, cases_Bool, both_ways, inl, inr, ◌==◌, fmmu_count, is_slow}
+use Rattle.ec_bringup.proofs.Words.{ℕ, zero, suc, ◌+◌, ◌-◌, ◌*◌, ◌/◌, ◌%◌, ◌<◌, ◌≤◌, ◌≡◌, ◌&&◌, not, Bool, true, false, List, Option, Some, None, Ok, refl, sym, ◌∙◌, ap, subst, arith, [], ◌∷◌, length, or_left, and_left, le-leb, if_true, if_false, SyncManagerSettings, FmmuSettings, Device, device_of, is_stored, takes_writes, manager_bytes, fmmu_bytes, State, Init, PreOp, SafeOp, Op, Checks, state_number, answer, requested_by, acknowledges, Al, sii_image_word_at as word_at, size_of, Sii, written, read_command, SlaveState, station_of, datagram_met, control_word, checks_of, served, AskWord, SetManager, SetFmmu, ManagerRegister, AskState, station, datagram_of, word_address_of, IsStepUp, IsAsked, IsOfType, settles, Hardware, has_firmware, al_decided, is_awaiting, is_safeop, manager_at, requested_number, cases_Bool, both_ways, inl, inr, ◌==◌, fmmu_count, is_slow, Identity, SlaveKind, WantedDevice, wanted_of}
 use Rattle.ec_al.specs.Al as al
 use Rattle.ec_sii.specs.Port as port
 use Rattle.ec_bringup.proofs.OneSlave.Lacking.{has-above, has-below, has-own}
@@ -130,10 +130,22 @@ word_of t zero = t.vendor
 word_of t (suc zero) = t.product
 word_of t (suc (suc which)) = t.revision
 
-pub record HasFound (value : ℕ) (p : Sii) : Type 0 where
+-- a value is the word of a device that is wanted: one of any revision has any third word
+abbrev pub IsWord : WantedDevice → ℕ → ℕ → Type 0
+IsWord t zero value = value ≡ t.device.vendor
+IsWord t (suc zero) value = value ≡ t.device.product
+IsWord t (suc (suc which)) value = t.any_revision ≡ false → value ≡ t.device.revision
+
+pub record HasFound (t : WantedDevice) (which : ℕ) (p : Sii) : Type 0 where
   pub idle : p.busy ≡ false
   pub no_error : p.error ≡ false
-  pub found_is : p.found ≡ value
+  pub found_is : IsWord t which p.found
+
+-- the port found this value
+record HasRead (value : ℕ) (p : Sii) : Type 0 where
+  idle : p.busy ≡ false
+  no_error : p.error ≡ false
+  found_is : p.found ≡ value
 
 whole : (n : ℕ) → n % 65536 + 65536 * (n / 65536) ≡ n
 whole n = omega arith
@@ -148,24 +160,26 @@ finished-read : (q : Sii) → q.busy ≡ true → q.address ≤ 62 → port.step
 unfolding port.stepped
 finished-read q b l = if_true _ _ _ b ∙ if_true _ _ _ (le-leb q.address (port.last_address q.image) (let r = room q.image.categories in omega (arith, l, r)))
 
-found-by : (value : ℕ) (q : Sii) → q.busy ≡ true → q.error ≡ false → q.address ≤ 62 → port.two_words q.image q.address ≡ value → HasFound value (port.stepped q)
-found-by value q b e l f = subst (HasFound value) (sym (finished-read q b l)) (record { idle = refl; no_error = e; found_is = f })
+found-by : (value : ℕ) (q : Sii) → q.busy ≡ true → q.error ≡ false → q.address ≤ 62 → port.two_words q.image q.address ≡ value → HasRead value (port.stepped q)
+found-by value q b e l f = subst (HasRead value) (sym (finished-read q b l)) (record { idle = refl; no_error = e; found_is = f })
 
-finds : (p : Sii) (which : ℕ) → which < 3 → p.busy ≡ false → HasFound (word_of (device_of p.image.identity) which) (port.stepped (written p 0x0502 (read_command (word_address_of which))))
+finds : (p : Sii) (which : ℕ) → which < 3 → p.busy ≡ false → HasRead (word_of (device_of p.image.identity) which) (port.stepped (written p 0x0502 (read_command (word_address_of which))))
 unfolding written word_at
-finds p zero l e = subst (λ (q : Sii). HasFound p.image.identity.vendor (port.stepped q)) (sym (if_false _ _ _ e)) (found-by p.image.identity.vendor _ refl refl (omega arith) (whole p.image.identity.vendor))
-finds p (suc zero) l e = subst (λ (q : Sii). HasFound p.image.identity.product (port.stepped q)) (sym (if_false _ _ _ e)) (found-by p.image.identity.product _ refl refl (omega arith) (whole p.image.identity.product))
-finds p (suc (suc zero)) l e = subst (λ (q : Sii). HasFound p.image.identity.revision (port.stepped q)) (sym (if_false _ _ _ e)) (found-by p.image.identity.revision _ refl refl (omega arith) (whole p.image.identity.revision))
+finds p zero l e = subst (λ (q : Sii). HasRead p.image.identity.vendor (port.stepped q)) (sym (if_false _ _ _ e)) (found-by p.image.identity.vendor _ refl refl (omega arith) (whole p.image.identity.vendor))
+finds p (suc zero) l e = subst (λ (q : Sii). HasRead p.image.identity.product (port.stepped q)) (sym (if_false _ _ _ e)) (found-by p.image.identity.product _ refl refl (omega arith) (whole p.image.identity.product))
+finds p (suc (suc zero)) l e = subst (λ (q : Sii). HasRead p.image.identity.revision (port.stepped q)) (sym (if_false _ _ _ e)) (found-by p.image.identity.revision _ refl refl (omega arith) (whole p.image.identity.revision))
 finds p (suc (suc (suc which))) l e = absurd (omega (arith, l))
 
-spelled-word : (t : Device) (s : SlaveState) (which : ℕ) → IsSpelled t s → word_of (device_of s.sii.image.identity) which ≡ word_of t which
-spelled-word t s zero h = h.vendor
-spelled-word t s (suc zero) h = h.product
-spelled-word t s (suc (suc which)) h = h.revision
+-- the slave's own word is that of a device of its type
+own-word : (kind : SlaveKind) (i : Identity) (which value : ℕ) → IsOfType kind i → value ≡ word_of (device_of i) which → IsWord (wanted_of kind) which value
+own-word kind i zero value h e = e ∙ h.vendor
+own-word kind i (suc zero) value h e = e ∙ h.product
+own-word kind i (suc (suc which)) value h e = λ named. e ∙ h.revision named
 
 -- by the write alone: what the SII port became
-pub word-found : (t : Device) (s r : SlaveState) (which : ℕ) → which < 3 → s.sii.busy ≡ false → IsSpelled t s → r.sii ≡ written s.sii 0x0502 (read_command (word_address_of which))
-    → HasFound (word_of t which) (served r).sii
-word-found t s r which l e h q =
-    subst (λ (p : Sii). HasFound (word_of t which) p) (sym ((settles r).sii ∙ ap port.stepped q))
-    (subst (λ (n : ℕ). HasFound n (port.stepped (written s.sii 0x0502 (read_command (word_address_of which))))) (spelled-word t s which h) (finds s.sii which l e))
+pub word-found : (kind : SlaveKind) (s r : SlaveState) (which : ℕ) → which < 3 → s.sii.busy ≡ false → IsOfType kind s.sii.image.identity → r.sii ≡ written s.sii 0x0502 (read_command (word_address_of which))
+    → HasFound (wanted_of kind) which (served r).sii
+word-found kind s r which l e h q =
+    let read : HasRead (word_of (device_of s.sii.image.identity) which) (served r).sii
+    = subst (λ (p : Sii). HasRead (word_of (device_of s.sii.image.identity) which) p) (sym ((settles r).sii ∙ ap port.stepped q)) (finds s.sii which l e) in
+    record { idle = read.idle; no_error = read.no_error; found_is = own-word kind s.sii.image.identity which (served r).sii.found h read.found_is }

@@ -1,5 +1,5 @@
 -- What a slave becomes by a datagram that writes registers.
-use Rattle.ec_bringup.proofs.Words.{ℕ, ◌≡◌, Bool, true, false, refl, sym, ◌∙◌, ap, arith, if◌then◌else◌, length, ◌+◌, ◌*◌, ◌/◌, ◌%◌, ◌<◌, ◌≤◌, ◌⊎◌, Option, None, subst, inl, inr, List, [], ◌∷◌, slice_index, SlaveKind, SyncManager, empty_manager, State, Al, requesting, SlaveState, manager_at, Meeting, station_of, power_on, Window, touches, is_configured, settings_written, physical_after, Wrote, set_by, OnlyWrites, IsOfKind, HoldsZeros, IsConfigured, Rises, IsSilent, Talks, IsUpAt, IsTop, Stands, eq-eqb, if_true, if_false, within_below, within_above, Command, Fpwr, Datagram, IsDatagram, adp_of, ado_of, Init, Op, state_number, Sii, written, role_of, adp_after, is_reading, is_writing, window_of, meets, slave_met, datagram_met, other_station_passes, control_word, Action, AskState, station, sent, Rise, Stays, Climbs, Config, Stage, Up, Talk, config_after, climbing, CanAct, CanClimb, writes_meet, goes_on, Untouched, ReadsOn, Arrives, MayRepeat, wrote, unconfigured, Fprd, Fprw, Falls, Hardware, is_missing, shown_fmmu, fmmu_bytes, fmmu_at, IsAssigned, IsEarly, PreOp, SafeOp, is_init, accesses_leave}
+use Rattle.ec_bringup.proofs.Words.{ℕ, ◌≡◌, Bool, true, false, refl, sym, ◌∙◌, ap, arith, if◌then◌else◌, length, ◌+◌, ◌*◌, ◌/◌, ◌%◌, ◌<◌, ◌≤◌, ◌⊎◌, Option, None, subst, inl, inr, List, [], ◌∷◌, slice_index, SlaveKind, SyncManager, configured, State, Al, requesting, SlaveState, manager_at, Meeting, station_of, power_on, Window, touches, is_configured, settings_written, physical_after, Wrote, set_by, OnlyWrites, IsOfKind, HoldsZeros, IsConfigured, Rises, IsSilent, Talks, IsUpAt, IsTop, Stands, eq-eqb, if_true, if_false, within_below, within_above, Command, Fpwr, Datagram, IsDatagram, adp_of, ado_of, Init, Op, state_number, Sii, written, role_of, adp_after, is_reading, is_writing, window_of, meets, slave_met, datagram_met, other_station_passes, control_word, Action, AskState, station, sent, Rise, Stays, Climbs, Config, Stage, Up, Talk, config_after, climbing, CanAct, CanClimb, writes_meet, goes_on, Untouched, ReadsOn, Arrives, MayRepeat, wrote, unconfigured, Fprd, Fprw, Falls, Hardware, is_missing, shown_fmmu, fmmu_bytes, fmmu_at, IsAssigned, IsEarly, PreOp, SafeOp, is_init, accesses_leave}
 use Rattle.ec_bringup.proofs.OneSlave.Alike.{SameObjects, assigned-same, left-same, kind-kept}
 use Rattle.ec_bringup.proofs.OneSlave.Lacking.{keeps-below}
 use Rattle.ec_bringup.proofs.OneFrame.OtherSlaves.{IsOne, ForAskState, station-zero, Owes, as_one, mine-told}
@@ -11,7 +11,7 @@ abbrev state_of : Al → State
 state_of a = a.state
 
 pub set-locked : (o : Option Hardware) (w : Window) (n : ℕ) (m : SyncManager) → (set_by o w n m).locked ≡ m.locked
-set-locked o w n m = elim (is_configured o w n) as (λ b. locked_of (if b then empty_manager (settings_written o w n m) m.locked else m) ≡ m.locked) [ true ↦ refl | false ↦ refl ]
+set-locked o w n m = elim (is_configured o w n) as (λ b. locked_of (if b then configured m (settings_written o w n m) else m) ≡ m.locked) [ true ↦ refl | false ↦ refl ]
 
 -- a slave that was written is one
 pub slave-wrote : (kind : SlaveKind) (w : Window) (s t : SlaveState) → Wrote w s t → IsOfKind kind s → IsOfKind kind t

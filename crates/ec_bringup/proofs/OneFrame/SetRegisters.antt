@@ -1,5 +1,5 @@
 -- Registers that are set at one slave: the SII command, a manager, an FMMU.
-use Rattle.ec_bringup.proofs.Words.{ℕ, ◌+◌, ◌-◌, ◌*◌, ◌<◌, ◌≤◌, ◌≡◌, ◌≢◌, Bool, true, false, Option, None, refl, sym, ◌∙◌, ap, subst, inl, inr, arith, if◌then◌else◌, List, length, slice_index, set, get_or-set_same, get_or-set_other, both_ways, cases_eq, cases_lt, or_left, or_right, within, if_true, if_false, within_true, within_below, within_above, SyncManagerSettings, FmmuSettings, SlaveKind, ram_start, is_stored, no_settings, manager_bytes, fmmu_bytes, no_fmmu, SyncManager, empty_manager, Fpwr, Datagram, IsDatagram, Init, PreOp, Sii, written, byte_for, commanded, addressed, address_written, read_command, SlaveState, manager_at, station_of, Window, physical_after, is_configured, settings_written, settings_at, fmmu_at, AskWord, SetManager, SetFmmu, station, word_address_of, Rise, Stays, Config, Up, Talk, CanAct, IsLow, HoldsZeros, IsConfigured, IsSilent, Talks, IsUpAt, IsTop, Rises, Claims, Wrote, set_by, wrote, unconfigured, Falls, Hardware, fmmu_count, shown_fmmu, manager_number, other_name, naming_manager, slaves_take_names, AreNumbered, ManagerRegister, register_of, cases_Bool, Al, IsAtInit, IsEarly, IsAssigned, is_init, left_to_say, dictionary_of, Came, SdoRequest}
+use Rattle.ec_bringup.proofs.Words.{ℕ, ◌+◌, ◌-◌, ◌*◌, ◌<◌, ◌≤◌, ◌≡◌, ◌≢◌, Bool, true, false, Option, None, refl, sym, ◌∙◌, ap, subst, inl, inr, arith, if◌then◌else◌, List, length, slice_index, set, get_or-set_same, get_or-set_other, both_ways, cases_eq, cases_lt, or_left, or_right, within, if_true, if_false, within_true, within_below, within_above, SyncManagerSettings, FmmuSettings, SlaveKind, ram_start, is_stored, no_settings, manager_bytes, fmmu_bytes, no_fmmu, SyncManager, configured, Fpwr, Datagram, IsDatagram, Init, PreOp, Sii, written, byte_for, commanded, addressed, address_written, read_command, SlaveState, manager_at, station_of, Window, physical_after, is_configured, settings_written, settings_at, fmmu_at, AskWord, SetManager, SetFmmu, station, word_address_of, Rise, Stays, Config, Up, Talk, CanAct, IsLow, HoldsZeros, IsConfigured, IsSilent, Talks, IsUpAt, IsTop, Rises, Claims, Wrote, set_by, wrote, unconfigured, Falls, Hardware, fmmu_count, shown_fmmu, manager_number, other_name, naming_manager, slaves_take_names, AreNumbered, ManagerRegister, register_of, cases_Bool, Al, IsAtInit, IsEarly, IsAssigned, is_init, left_to_say, dictionary_of, Came, SdoRequest}
 use Rattle.ec_bringup.proofs.OneSlave.Alike.{SameObjects, assigned-same, left-same, left-init, rises-alike, word_of}
 use Rattle.ec_bringup.proofs.OneSlave.Lacking.{keeps-there, has-own}
 use Rattle.ec_bringup.proofs.OneFrame.OtherSlaves.{ForAskWord, ForSetManager, ForSetFmmu, Owes, as_one}
@@ -53,7 +53,7 @@ abbrev mail_of : SyncManager → Option (List ℕ)
 mail_of m = m.mail
 
 set-mail : (o : Option Hardware) (w : Window) (n : ℕ) (m : SyncManager) → m.mail ≡ None → (set_by o w n m).mail ≡ None
-set-mail o w n m e = elim (is_configured o w n) as (λ b. mail_of (if b then empty_manager (settings_written o w n m) m.locked else m) ≡ None) [ true ↦ refl | false ↦ e ]
+set-mail o w n m e = elim (is_configured o w n) as (λ b. mail_of (if b then configured m (settings_written o w n m) else m) ≡ None) [ true ↦ refl | false ↦ e ]
 
 -- what is left to say stays in manager 1, if that isn't set in PREOP
 left-set : (c d : Config) (s t : SlaveState) (w : Window) → Wrote w s t → length s.managers ≡ 4 → d.done ≡ c.done → t.al ≡ s.al → (is_configured s.kind.hardware w 1 ≡ true → s.al.state ≡ Init)
@@ -72,7 +72,7 @@ left-set c d s t w k four ed al init h = elim (cases_Bool (is_configured s.kind.
 
 -- new settings leave zeros
 set-zeros : (o : Option Hardware) (w : Window) (n : ℕ) (m : SyncManager) → HoldsZeros m → HoldsZeros (set_by o w n m)
-set-zeros o w n m h = elim (is_configured o w n) as (λ b. HoldsZeros (if b then empty_manager (settings_written o w n m) m.locked else m)) [ true ↦ refl | false ↦ h ]
+set-zeros o w n m h = elim (is_configured o w n) as (λ b. HoldsZeros (if b then configured m (settings_written o w n m) else m)) [ true ↦ refl | false ↦ h ]
 
 -- in INIT
 pub at-init : (r : Rise) (s : SlaveState) → IsAtInit r → Rises r s → s.al.state ≡ Init

@@ -1,5 +1,5 @@
 -- Whatever happens to a slave, it stays a device of its type.
-use Rattle.ec_bringup.proofs.Words.{cases_Bool, inl, inr, ℕ, ◌<◌, ◌≤◌, ◌≡◌, Bool, true, false, Option, Some, None, refl, sym, ◌∙◌, ap, subst, arith, if◌then◌else◌, List, length, set, unwrap_or, SlaveKind, Identity, Datagram, Sii, SiiImage, SyncManager, app_put, Got, SlaveState, power_on, manager_at, slave_met, option_map, IsOfKind, is_running, with_manager, input_put, output_got, output_taken, served, faulted, SlavePlan, IsDevice, plan_at, slave_of, settles, inside_kept, faults, settings_kept, switched_on, Starting, slave_at, with_begun, AreStartable, Happens, Sends, Passes, Loses, Returns, Strays, Closes, Serves, Puts, Gets, Faults, Resets, Runs, Stops, Steps, Begins, IsTrue, AreTrue, AgainLaw}
+use Rattle.ec_bringup.proofs.Words.{cases_Bool, inl, inr, ℕ, ◌<◌, ◌≤◌, ◌≡◌, Bool, true, false, Option, Some, None, refl, sym, ◌∙◌, ap, subst, arith, if◌then◌else◌, List, length, set, unwrap_or, SlaveKind, Identity, Datagram, Sii, SiiImage, SyncManager, app_put, Got, SlaveState, power_on, manager_at, slave_met, option_map, IsOfKind, is_running, with_manager, input_put, output_got, output_taken, served, faulted, SlavePlan, IsDevice, plan_at, slave_of, settles, inside_kept, faults, settings_kept, switched_on, Starting, slave_at, with_begun, AreStartable, Happens, Sends, Passes, Loses, Returns, Strays, Closes, Serves, Puts, Gets, Faults, Resets, Runs, Stops, Steps, Begins, IsOfType, IsTrue, AreTrue, AgainLaw}
 use Rattle.ec_al.specs.Al as al
 use Rattle.ec_bringup.proofs.StartUp.Keeps.{set_one}
 use Rattle.ec_bringup.proofs.StartUp.StartUpLaw.{IsGood, runs-good, happens-plan, begun-plan, new-good}
@@ -15,9 +15,7 @@ same-refl s = record { identity = refl; image = refl }
 pub true-on : (kind : SlaveKind) (s t : SlaveState) → Same s t → IsTrue kind s → IsTrue kind t
 true-on kind s t e h = record {
   image = ap (λ (i : SiiImage). i.identity) e.image ∙ (h.image ∙ sym e.identity);
-  vendor = ap (λ (i : Identity). i.vendor) e.identity ∙ h.vendor;
-  product = ap (λ (i : Identity). i.product) e.identity ∙ h.product;
-  revision = ap (λ (i : Identity). i.revision) e.identity ∙ h.revision;
+  own = subst (IsOfType kind) (sym e.identity) h.own;
 }
 
 -- ---- any datagram
@@ -49,17 +47,15 @@ fault-same s = elim (cases_Bool (al.is_operational s.al.state)) [
 ]
 
 -- an identity of the type's device
-pub on-true : (kind type : SlaveKind) (identity : Identity) → identity.vendor ≡ kind.device.vendor → identity.product ≡ kind.device.product → identity.revision ≡ kind.device.revision → IsTrue kind (power_on type identity)
-on-true kind type identity vendor product revision =
+pub on-true : (kind type : SlaveKind) (identity : Identity) → IsOfType kind identity → IsTrue kind (power_on type identity)
+on-true kind type identity h =
     let on = switched_on type identity in record {
       image = ap (λ (p : Sii). p.image.identity) on.sii ∙ sym on.identity_is;
-      vendor = ap (λ (i : Identity). i.vendor) on.identity_is ∙ vendor;
-      product = ap (λ (i : Identity). i.product) on.identity_is ∙ product;
-      revision = ap (λ (i : Identity). i.revision) on.identity_is ∙ revision;
+      own = subst (IsOfType kind) (sym on.identity_is) h;
     }
 
 pub reset-true : (kind : SlaveKind) (s : SlaveState) → IsTrue kind s → IsTrue kind (power_on s.kind s.identity)
-reset-true kind s h = on-true kind s.kind s.identity h.vendor h.product h.revision
+reset-true kind s h = on-true kind s.kind s.identity h.own
 
 -- ---- worlds
 
@@ -104,11 +100,7 @@ runs-true ps planned w v (Begins x y f failed empty r) g h =
 pub device-of : (kind : SlaveKind) (s : SlaveState) → IsOfKind kind s → IsTrue kind s → IsDevice kind s
 device-of kind s k h = record {
   slave = k;
-  spelled = record {
-    vendor = ap (λ (i : Identity). i.vendor) h.image ∙ h.vendor;
-    product = ap (λ (i : Identity). i.product) h.image ∙ h.product;
-    revision = ap (λ (i : Identity). i.revision) h.image ∙ h.revision;
-  };
+  spelled = subst (IsOfType kind) (sym h.image) h.own;
 }
 
 pub again : AgainLaw

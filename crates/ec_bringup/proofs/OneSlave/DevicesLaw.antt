@@ -9,7 +9,7 @@ use Rattle.ec_bringup.proofs.OneSlave.MailboxServed.{stands-served}
 use Rattle.ec_bringup.proofs.OneSlave.Reset.{power_on_is}
 
 pub switched_on : SwitchedOnLaw
-switched_on kind identity h = record { slave = power_on_is kind identity; own = on-true kind kind identity h.vendor h.product h.revision }
+switched_on kind identity h = record { slave = power_on_is kind identity; own = on-true kind kind identity h }
 
 -- nothing is known of it but its kind
 stands : (kind : SlaveKind) (s : SlaveState) → IsOfKind kind s → Stands kind 0 Before false s

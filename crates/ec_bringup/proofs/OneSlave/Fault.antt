@@ -1,34 +1,31 @@
 -- A fault of a slave that stands at a stage, and what its application reads and writes.
-use Rattle.ec_bringup.proofs.Words.{ℕ, ◌<◌, ◌≡◌, ◌≢◌, ◌⊎◌, Bool, true, false, Option, Some, None, refl, sym, ◌∙◌, ap, subst, inl, inr, arith, if◌then◌else◌, List, length, set, unwrap_or, option_map, nat_lt, ◌==◌, length-set, get_or-set_same, get_or-set_other, cases_Bool, cases_eq, both_ways, if_true, if_false, SlaveKind, Buffer, Got, view_next, app_written, app_read, SyncManager, no_manager, may_app_put, may_app_get, app_put, app_got, Init, PreOp, SafeOp, Op, Al, SlaveState, manager_at, is_running, with_manager, input_put, output_got, output_taken, faults, switched_on, faulted, locked_empty, Rise, Falls, Stays, Climbs, Config, Stage, Before, Called, Down, Lowered, Up, Talk, unviewed, HoldsZeros, IsOfKind, Rises, IsSilent, Talks, IsUpAt, Reached, IsGone, IsFaulted, IsTop, HadFault, Stands, is_init}
+use Rattle.ec_bringup.proofs.Words.{ℕ, ◌<◌, ◌≡◌, ◌≢◌, ◌⊎◌, Bool, true, false, Option, Some, None, refl, sym, ◌∙◌, ap, subst, inl, inr, arith, if◌then◌else◌, List, length, set, unwrap_or, option_map, nat_lt, ◌==◌, length-set, get_or-set_same, get_or-set_other, cases_Bool, cases_eq, both_ways, if_true, if_false, SlaveKind, Buffer, Got, view_next, app_written, app_read, SyncManager, no_manager, may_app_put, may_app_get, app_put, app_got, Init, PreOp, SafeOp, Op, Al, SlaveState, manager_at, is_running, with_manager, input_put, output_got, output_taken, faults, switched_on, faulted, outputs_lost, SyncManagerSettings, emptied_buffer, buffer_length, Rise, Falls, Stays, Climbs, Config, Stage, Before, Called, Down, Lowered, Up, Talk, unviewed, HoldsZeros, IsOfKind, Rises, IsSilent, Talks, IsUpAt, Reached, IsGone, IsFaulted, IsTop, HadFault, Stands, is_init}
 use Rattle.ec_al.specs.Al as al
 use Rattle.ec_bringup.proofs.OneSlave.Alike.{Alike, assigned-same, left-same, stands-alike, gone-on, had-fault, set-front}
 
 -- ---- a fault
 
-at_two : (ms : List SyncManager) (n : ℕ) → 2 < length ms → n ≢ 2 → manager_at (set ms 2 (locked_empty (manager_at ms 2))) n ≡ manager_at ms n
-at_two ms n l ne = get_or-set_other ms 2 n (locked_empty (manager_at ms 2)) no_manager ne
+at_two : (ms : List SyncManager) (n : ℕ) (m : SyncManager) → n ≢ 2 → manager_at (set ms 2 m) n ≡ manager_at ms n
+at_two ms n m ne = get_or-set_other ms 2 n m no_manager ne
 
-own_two : (ms : List SyncManager) → 2 < length ms → manager_at (set ms 2 (locked_empty (manager_at ms 2))) 2 ≡ locked_empty (manager_at ms 2)
-own_two ms l = get_or-set_same ms 2 (locked_empty (manager_at ms 2)) no_manager l
+own_two : (ms : List SyncManager) (m : SyncManager) → 2 < length ms → manager_at (set ms 2 m) 2 ≡ m
+own_two ms m l = get_or-set_same ms 2 m no_manager l
 
-settings_two : (ms : List SyncManager) (n : ℕ) → 2 < length ms → (manager_at (set ms 2 (locked_empty (manager_at ms 2))) n).settings ≡ (manager_at ms n).settings
-settings_two ms n l = elim (cases_eq n 2) [
-  | inl e ↦ subst (λ (k : ℕ). (manager_at (set ms 2 (locked_empty (manager_at ms 2))) k).settings ≡ (manager_at ms k).settings) (sym e) (ap (λ (m : SyncManager). m.settings) (own_two ms l))
-  | inr ne ↦ ap (λ (m : SyncManager). m.settings) (at_two ms n l ne)
+settings_two : (ms : List SyncManager) (n : ℕ) (m : SyncManager) → 2 < length ms → m.settings ≡ (manager_at ms 2).settings → (manager_at (set ms 2 m) n).settings ≡ (manager_at ms n).settings
+settings_two ms n m l same = elim (cases_eq n 2) [
+  | inl e ↦ subst (λ (k : ℕ). (manager_at (set ms 2 m) k).settings ≡ (manager_at ms k).settings) (sym e) (ap (λ (x : SyncManager). x.settings) (own_two ms m l) ∙ same)
+  | inr ne ↦ ap (λ (x : SyncManager). x.settings) (at_two ms n m ne)
 ]
 
-mail_other : (ms : List SyncManager) (n : ℕ) → 2 < length ms → n ≢ 2 → (manager_at (set ms 2 (locked_empty (manager_at ms 2))) n).mail ≡ (manager_at ms n).mail
-mail_other ms n l ne = ap (λ (m : SyncManager). m.mail) (at_two ms n l ne)
-
-mail_two : (ms : List SyncManager) (n : ℕ) → 2 < length ms → (manager_at ms n).mail ≡ None → (manager_at (set ms 2 (locked_empty (manager_at ms 2))) n).mail ≡ None
-mail_two ms n l h = elim (cases_eq n 2) [
-  | inl e ↦ subst (λ (k : ℕ). (manager_at (set ms 2 (locked_empty (manager_at ms 2))) k).mail ≡ None) (sym e) (ap (λ (m : SyncManager). m.mail) (own_two ms l))
-  | inr ne ↦ ap (λ (m : SyncManager). m.mail) (at_two ms n l ne) ∙ h
+mail_two : (ms : List SyncManager) (n : ℕ) (m : SyncManager) → 2 < length ms → m.mail ≡ None → (manager_at ms n).mail ≡ None → (manager_at (set ms 2 m) n).mail ≡ None
+mail_two ms n m l none h = elim (cases_eq n 2) [
+  | inl e ↦ subst (λ (k : ℕ). (manager_at (set ms 2 m) k).mail ≡ None) (sym e) (ap (λ (x : SyncManager). x.mail) (own_two ms m l) ∙ none)
+  | inr ne ↦ ap (λ (x : SyncManager). x.mail) (at_two ms n m ne) ∙ h
 ]
 
 -- the slave after a fault in OP
 abbrev with_fault : SlaveState → SlaveState
-with_fault s = record s { al = al.faulted s.al; managers = set s.managers 2 (locked_empty (manager_at s.managers 2)) }
+with_fault s = record s { al = al.faulted s.al; managers = set s.managers 2 (outputs_lost s) }
 
 al-is : (a : Al) → a.state ≡ Op → al.faulted a ≡ record { state = SafeOp; error = true; code = 1; requested = a.requested; waited = a.waited }
 al-is a e = if_true _ _ _ (ap al.is_operational e)
@@ -49,6 +46,7 @@ fault-slave kind s e h = record {
 fault-at : (i : ℕ) (c : Config) (s : SlaveState) → s.al.state ≡ Op → 3 < length s.managers → s.al.requested ≡ false → IsTop c.rise → IsUpAt i c s → IsFaulted i c (with_fault s)
 fault-at i c s e l quiet top u =
     let two : 2 < length s.managers = omega arith in
+    let lost = (faults s).lost in
     let silent : IsSilent c s = subst (λ (o : Option Talk). Talks i c o s) (u.quiet top) u.talks in
     record {
       top = top;
@@ -56,22 +54,22 @@ fault-at i c s e l quiet top u =
       faulted = record {
         configured = record {
           station_is = u.configured.station_is;
-          settings = λ n b. settings_two s.managers n two ∙ u.configured.settings n b;
+          settings = λ n b. settings_two s.managers n (outputs_lost s) two lost.settings ∙ u.configured.settings n b;
           fmmus = u.configured.fmmus;
           idle = u.configured.idle;
-          no_messages = λ n a b. mail_two s.managers n two (u.configured.no_messages n a b);
-          outputs = subst HoldsZeros (sym (own_two s.managers two)) refl;
+          no_messages = λ n a b. mail_two s.managers n (outputs_lost s) two lost.mail (u.configured.no_messages n a b);
+          outputs = subst HoldsZeros (sym (own_two s.managers (outputs_lost s) two)) (ap unviewed lost.buffer ∙ ap (λ (x : SyncManagerSettings). emptied_buffer (buffer_length x)) (sym lost.settings));
         };
         silent = record {
-          no_message = mail_two s.managers 0 two silent.no_message;
-          no_reply = mail_other s.managers 1 two (λ q. omega (arith, q)) ∙ (silent.no_reply ∙ sym (left-same c c s (with_fault s) refl (settings_two s.managers 1 two) (ap (λ (x : Al). is_init x.state) (al-is s.al e) ∙ ap is_init (sym e)) refl));
+          no_message = mail_two s.managers 0 (outputs_lost s) two lost.mail silent.no_message;
+          no_reply = ap (λ (m : SyncManager). m.mail) (at_two s.managers 1 (outputs_lost s) (λ q. omega (arith, q))) ∙ (silent.no_reply ∙ sym (left-same c c s (with_fault s) refl (settings_two s.managers 1 (outputs_lost s) two lost.settings) (ap (λ (x : Al). is_init x.state) (al-is s.al e) ∙ ap is_init (sym e)) refl));
           assigned = assigned-same c s (with_fault s) (record { kind = refl; identity = refl; outs = refl; ins = refl; values = refl }) silent.assigned;
         };
         state = ap (λ (x : Al). x.state) (al-is s.al e);
         error = ap (λ (x : Al). x.error) (al-is s.al e);
         no_request = ap (λ (x : Al). x.requested) (al-is s.al e) ∙ quiet;
-        locked = ap (λ (m : SyncManager). m.locked) (own_two s.managers two);
-        unlocked = λ n b ne. ap (λ (m : SyncManager). m.locked) (at_two s.managers n two ne) ∙ u.unlocked n b;
+        locked = ap (λ (m : SyncManager). m.locked) (own_two s.managers (outputs_lost s) two) ∙ lost.locked;
+        unlocked = λ n b ne. ap (λ (m : SyncManager). m.locked) (at_two s.managers n (outputs_lost s) ne) ∙ u.unlocked n b;
       };
     }
 

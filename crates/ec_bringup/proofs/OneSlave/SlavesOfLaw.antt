@@ -7,14 +7,14 @@ use Rattle.ec_bringup.proofs.OneSlave.DevicesLaw.{switched_on}
 
 -- with that of its type, the identity is that of a device of the type
 typed : (t : Contents) (k serial : ℕ) (o : Option TypeRow) (x : Identity) → option_map (λ (y : TypeRow). device_identity y.device serial) o ≡ Some x
-    → IsOfType (unwrap_or (option_map (objects.kind_at t k) o) plain_kind).device x
+    → IsOfType (unwrap_or (option_map (objects.kind_at t k) o) plain_kind) x
 typed t k serial None x e = absurd (false≢true (ap (λ (o : Option Identity). is_some o) e))
 typed t k serial (Some y) x e =
     let is : x ≡ device_identity y.device serial = ap (λ (o : Option Identity). unwrap_or o x) (sym e) in
     record {
       vendor = ap (λ (i : Identity). i.vendor) is;
       product = ap (λ (i : Identity). i.product) is;
-      revision = ap (λ (i : Identity). i.revision) is;
+      revision = λ named. ap (λ (i : Identity). i.revision) is;
     }
 
 abbrev type_in : Contents → Option SlaveRow → Option TypeRow
@@ -25,7 +25,7 @@ identity_in t o = option_and_then (λ (r : SlaveRow). option_map (λ (y : TypeRo
 
 -- where it shows an identity there is a row of it
 told : (t : Contents) (k : ℕ) (o : Option SlaveRow) (x : Identity) → identity_in t o ≡ Some x
-    → (r : SlaveRow) × (o ≡ Some r) × IsOfType (unwrap_or (option_map (objects.kind_at t k) (type_in t o)) plain_kind).device x
+    → (r : SlaveRow) × (o ≡ Some r) × IsOfType (unwrap_or (option_map (objects.kind_at t k) (type_in t o)) plain_kind) x
 told t k None x e = absurd (false≢true (ap (λ (o : Option Identity). is_some o) e))
 told t k (Some r) x e = (r, refl, typed t k r.serial (slice_get t.types r.type_index) x e)
 
@@ -33,7 +33,7 @@ told t k (Some r) x e = (r, refl, typed t k r.serial (slice_get t.types r.type_i
 pub of-types : IdentitiesLaw
 of-types t sound free is h k l =
     let of = told t k (slice_get t.slaves k) (get_or is k no_identity) (h.each k l) in
-    subst (λ (y : SlaveKind). IsOfType y.device (get_or is k no_identity)) (sym ((plan_sound t sound free).each k of.0 of.1).kind) of.2
+    subst (λ (y : SlaveKind). IsOfType y (get_or is k no_identity)) (sym ((plan_sound t sound free).each k of.0 of.1).kind) of.2
 
 -- ---- slave after slave
 
@@ -42,7 +42,7 @@ count-on [] is e = refl
 count-on (p ∷ ps) [] e = absurd (omega (arith, e))
 count-on (p ∷ ps) (i ∷ is) e = ap (λ (n : ℕ). suc n) (count-on ps is (omega (arith, e)))
 
-each-on : (ps : List SlavePlan) (is : List Identity) → length is ≡ length ps → ((k : ℕ) → k < length ps → IsOfType (plan_at ps k).kind.device (get_or is k no_identity))
+each-on : (ps : List SlavePlan) (is : List Identity) → length is ≡ length ps → ((k : ℕ) → k < length ps → IsOfType (plan_at ps k).kind (get_or is k no_identity))
     → (k : ℕ) → k < length ps → IsGenuine (plan_at ps k).kind (slave_of (bringup_switched_on ps is) k)
 each-on [] is e h k l = absurd (omega (arith, l))
 each-on (p ∷ ps) [] e h k l = absurd (omega (arith, e))

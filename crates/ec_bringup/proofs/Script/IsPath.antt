@@ -1,57 +1,61 @@
 -- From one frame to the next, and from the first to the last: an undisturbed start-up goes on as its script says.
-use Rattle.ec_bringup.proofs.Words.{ℕ, zero, suc, ◌+◌, ◌^◌, ◌*◌, ◌<◌, ◌≤◌, ◌≡◌, ◌≢◌, true, false, refl, sym, ◌∙◌, ap, subst, inl, inr, ◌⊎◌, arith, List, [], ◌∷◌, length, map, drop, get_or, slice_get, nat_lt, ◌==◌, Bool, Option, Some, None, is_some, if◌then◌else◌, ◌++◌, lt-ltb, le-ltb, cases_eq, both_ways, length-map, if_true, if_false, Device, WantedDevice, Hardware, SlaveKind, Datagram, IsDatagram, SlaveState, manager_at, datagram_met, served, SlavePlan, Feed, Action, CountSlaves, AskWord, AwaitWord, AskState, AskInit, ClearStations, AwaitReply, AwaitFreeReply, AwaitInit, AwaitCleanInit, Verdict, Again, Aside, Heard, max_polls, MayRepeat, steps_slow, polls_more, frames_each, frames_behind, Came, dictionary_of, Fits, ne_eqb, cases_lt, FeedPart, datagram_of, script, named, settled, settled_by, identified, mailbox_set, raised, exchanged, talked, set_manager, fmmu_set, mapped, each_slave, opened, closed, is_hardware, phases, requests, with_word, verdict, Fed, StartState, step_of, action_of, is_fed, type_of, sending, advanced, with_identity, judged, Idle, Ready, Stage, Up, Config, after, Stands, Stays, IsAssigned, IsSilent, Talks, Talk, Claim, Claims, AreApplied, IsOfKind, AreNamed, MayEnd, all_passed, all_met, Rising, turned, plan_at, planned, rising, TurnsTo, AppliedStays as Stays_on, Turns, Mailbox, State, PreOp, SafeOp, Op, settings_at, fmmu_at, SdoRequest, IsReachable, CanReach, IsOnItsWay, settles, has_outputs, manager_number, AreNumbered}
+use Rattle.ec_bringup.proofs.Words.{ℕ, zero, suc, ◌+◌, ◌^◌, ◌*◌, ◌<◌, ◌≤◌, ◌≡◌, ◌≢◌, true, false, refl, sym, ◌∙◌, ap, subst, inl, inr, ◌⊎◌, arith, List, [], ◌∷◌, length, map, drop, get_or, slice_get, nat_lt, Bool, Option, Some, None, is_some, lt-ltb, le-ltb, cases_eq, both_ways, length-map, if_true, if_false, Device, WantedDevice, Hardware, SlaveKind, Datagram, IsDatagram, SlaveState, manager_at, datagram_met, served, SlavePlan, Feed, Action, CountSlaves, AskWord, AwaitWord, AskState, AskInit, ClearStations, AwaitReply, AwaitInit, Verdict, Again, Aside, Heard, max_polls, MayRepeat, steps_slow, polls_more, frames_each, frames_behind, Came, dictionary_of, Fits, ne_eqb, cases_lt, FeedPart, datagram_of, script, named, is_hardware, with_word, verdict, Fed, StartState, step_of, action_of, is_fed, type_of, sending, advanced, with_identity, judged, Idle, Ready, Stage, Up, Config, after, Stands, Stays, IsAssigned, IsSilent, Talks, Talk, Claim, Claims, AreApplied, IsOfKind, AreNamed, MayEnd, all_passed, all_met, Rising, turned, plan_at, planned, rising, TurnsTo, AppliedStays as Stays_on, Turns, State, Op, SdoRequest, IsOnItsWay, settles, has_outputs}
 use Rattle.ec_bringup.specs.Fed.{AreFeedsOf, ArePredicted, IsFeedOf}
 use Rattle.ec_bringup.proofs.OneFrame.FrameLaw.{take-law}
 use Rattle.ec_bringup.proofs.OneFrame.FeedLaw.{feed-sets-out}
 use Rattle.ec_bringup.proofs.OneSlave.Dry.{Dry, DryAt}
 use Rattle.ec_bringup.proofs.OneSlave.MailboxServed.{stands-served}
 use Rattle.ec_bringup.proofs.Mailbox.SendRequest.{IsSendable, datagram-good}
-use Rattle.ec_bringup.proofs.OneFrame.Commands.{word_of, Unawaited}
-use Rattle.ec_bringup.proofs.OneFrame.Awaits.{Tells}
+use Rattle.ec_bringup.proofs.Words.{wanted_of, Word}
+use Rattle.ec_bringup.proofs.OneFrame.Commands.{IsWord, word_of, Unawaited}
+use Rattle.ec_bringup.proofs.OneFrame.Awaits.{Tells, IsTold}
 use Rattle.ec_bringup.proofs.Script.Walks.{Walks, walks-lead}
 use Rattle.ec_bringup.proofs.Script.FedSteps.{AreFed, Acts, Own, Part, acts, HasAllSet, all-set, fed-ahead}
+use Rattle.ec_bringup.proofs.Script.Chained.{Chained}
 use Rattle.std.proofs.Math.Nat.{mul-le-mul_right}
 use Rattle.ec_bringup.proofs.Script.Polls.{al_asked, IsCounted, own-each, fed-within, counted-one, due-of, on-of, paced-of, counted-next, more-few, behind-more}
 use Rattle.ec_bringup.proofs.AllSlaves.Delays.{IsPolled, reached-of}
 use Rattle.ec_bringup.proofs.AllSlaves.NextAction.{Prior, Prompted, Suits, Bless, IsPaced, Ready as IsReadyFor, Bears}
-use Rattle.ec_bringup.proofs.AllSlaves.FramePasses.{Each, Ahead, After, Still, pass-all, wait-all, spelled-on, wanted, IsInside, IsDue, GoesOn, Told, sets-out, comes-back, goes-on}
+use Rattle.ec_bringup.proofs.AllSlaves.FramePasses.{Each, Ahead, After, Still, pass-all, wait-all, spelled-on, IsWanted, IsInside, IsDue, GoesOn, Told, sets-out, comes-back, goes-on}
 use Rattle.ec_bringup.proofs.AllSlaves.FedTurns.{IsFedBy, fed-none, fed-applied, Waits, Goes, fed-back}
 use Rattle.ec_bringup.proofs.AllSlaves.Applications.{Stood, stood-applied, each-applied, applied-length}
-
--- each behind the one before it
-abbrev pub Chained : Bool → ℕ → Action → List Action → Type 0
-Chained hw n p [] = Unit {0}
-Chained hw n p (a ∷ rest) = Prompted p a × IsInside hw n a × IsSendable a × Chained hw n a rest
 
 -- behind the last one stands none that asks anything
 abbrev pub first_of : List Action → Action
 first_of [] = ClearStations
 first_of (a ∷ rest) = a
 
--- ---- the words seen
+-- ---- the words seen, by the verdict on each action
 
-abbrev pub seen_by : (ℕ → WantedDevice) → Device → Action → Device
-seen_by types seen (AwaitWord t which) = with_word seen which (word_of (types t).device which)
-seen_by types seen _ = seen
+abbrev pub word_in : Verdict → ℕ
+word_in (Word value) = value
+word_in _ = 0
 
-tells-more : (t : Device) (seen : Device) (which : ℕ) → which < 2 → Tells t seen which → Tells t (with_word seen which (word_of t which)) (suc which)
-tells-more t seen zero l h = refl
-tells-more t seen (suc zero) l h = (h, refl)
-tells-more t seen (suc (suc which)) l h = absurd (omega (arith, l))
+abbrev pub seen_by : Device → Action → Verdict → Device
+seen_by seen (AwaitWord t which) v = with_word seen which (word_in v)
+seen_by seen _ v = seen
 
-told-next : (types : ℕ → WantedDevice) (seen : Device) (hw : Bool) (n : ℕ) (a b : Action) → IsInside hw n b → Prompted a b → Told types seen a → Told types (seen_by types seen a) b
-told-next types seen hw n a (AskWord t (suc which)) i p h =
-    subst (λ (x : Action). Told types (seen_by types seen x) (AskWord t (suc which))) (sym p)
-    (tells-more (types t).device seen which (let l = i.1 in omega (arith, l)) (subst (λ (x : Action). Told types seen x) p h))
-told-next types seen hw n a (AwaitWord t which) i p h =
-    subst (λ (x : Action). Told types (seen_by types seen x) (AwaitWord t which)) (sym p) (subst (λ (x : Action). Told types seen x) p h)
-told-next types seen hw n a _ i p h = tt
+tells-more : (t : WantedDevice) (seen : Device) (which value : ℕ) → which < 2 → IsWord t which value → Tells t.device seen which → Tells t.device (with_word seen which value) (suc which)
+tells-more t seen zero value l w h = w
+tells-more t seen (suc zero) value l w h = (h, w)
+tells-more t seen (suc (suc which)) value l w h = absurd (omega (arith, l))
+
+told-next : (types : ℕ → WantedDevice) (seen : Device) (v : Verdict) (hw : Bool) (n : ℕ) (a b : Action) → IsInside hw n b → Prompted a b → IsWanted types a v → Told types seen a → Told types (seen_by seen a v) b
+told-next types seen v hw n a (AskWord t (suc which)) i p w h =
+    let is : IsTold (types t) which v = subst (λ (x : Action). IsWanted types x v) p w in
+    subst (λ (x : Action). Told types (seen_by seen x v) (AskWord t (suc which))) (sym p)
+    (subst (λ (x : Verdict). Tells (types t).device (with_word seen which (word_in x)) (suc which)) (sym is.2)
+    (tells-more (types t) seen which is.0 (let l = i.1 in omega (arith, l)) is.1 (subst (λ (x : Action). Told types seen x) p h)))
+told-next types seen v hw n a (AwaitWord t which) i p w h =
+    subst (λ (x : Action). Told types (seen_by seen x v) (AwaitWord t which)) (sym p) (subst (λ (x : Action). Told types seen x) p h)
+told-next types seen v hw n a _ i p w h = tt
 
 -- ---- the start-up goes on
 
-judged-wanted : (types : ℕ → WantedDevice) (s : StartState) (a : Action) → action_of s ≡ a → judged s (wanted types a) ≡ advanced s (seen_by types s.seen a)
-judged-wanted types s (AwaitWord t which) e = ap (λ (x : Action). advanced s (with_identity s x (word_of (types t).device which))) e
-judged-wanted types s _ e = refl
+judged-wanted : (types : ℕ → WantedDevice) (s : StartState) (a : Action) (v : Verdict) → action_of s ≡ a → IsWanted types a v → judged s v ≡ advanced s (seen_by s.seen a v)
+judged-wanted types s (AwaitWord t which) v e w =
+    subst (λ (x : Verdict). judged s x ≡ advanced s (seen_by s.seen (AwaitWord t which) x)) (sym w.2) (ap (λ (x : Action). advanced s (with_identity s x w.0)) e)
+judged-wanted types s _ v e w = ap (judged s) w
 
 -- what one poll more leaves
 pub record IsPolledOn (s t : StartState) : Type 0 where
@@ -78,11 +82,11 @@ repeats-by n step seen ps a d (inl e) = (take-law n step seen ps a d).2 e
 repeats-by n step seen ps a d (inr (heard, e)) = (take-law n step seen ps a d).3 heard e
 
 -- a verdict that is wanted ends the action
-ends-by : (n step : ℕ) (seen : Device) (ps : List SlavePlan) (a : Action) (d : Datagram) → verdict n step seen (type_of ps) a d ≡ wanted (type_of ps) a → MayEnd a d
+ends-by : (n step : ℕ) (seen : Device) (ps : List SlavePlan) (a : Action) (d : Datagram) → IsWanted (type_of ps) a (verdict n step seen (type_of ps) a d) → MayEnd a d
 ends-by n step seen ps a d e = by a e
   where
-    by : (x : Action) → verdict n step seen (type_of ps) a d ≡ wanted (type_of ps) x → MayEnd a d
-    by (AwaitWord t which) q = (take-law n step seen ps a d).1 (word_of (type_of ps t).device which) q
+    by : (x : Action) → IsWanted (type_of ps) x (verdict n step seen (type_of ps) a d) → MayEnd a d
+    by (AwaitWord t which) q = (take-law n step seen ps a d).1 q.0 q.2
     by _ q = (take-law n step seen ps a d).0 q
 
 -- ---- places in the script
@@ -129,7 +133,7 @@ all-met-length (s ∷ ss) d = ap (λ (k : ℕ). suc k) (all-met-length ss (datag
 pub record IsPath (ps : List SlavePlan) (fs : List Feed) (ends : ℕ → Config) : Type 0 where
   pub some : 0 < length ps
   pub few : length ps ≤ 64
-  pub types : (t : ℕ) → t < length ps → (type_of ps t).device ≡ (plan_at ps t).kind.device
+  pub types : (t : ℕ) → t < length ps → type_of ps t ≡ wanted_of (plan_at ps t).kind
   pub big : (t which : ℕ) → t < length ps → word_of (type_of ps t).device which < 2 ^ 32
   -- no device lets a request wait for more than 100 steps
   pub slow : (i : ℕ) → steps_slow (plan_at ps i).kind.hardware ≤ 100
@@ -172,7 +176,9 @@ pub record IsNow (ps : List SlavePlan) (fs : List Feed) (ss : List SlaveState) (
 
 -- what the last frame of a step leads to
 pub record HasTurned (ps : List SlavePlan) (ss : List SlaveState) (kinds : ℕ → SlaveKind) (stages : ℕ → Stage) (sent next : ℕ) (a : Action) (rest : List Action) (r : Rising) : Type 0 where
-  pub start : (turned r).start ≡ advanced (sending r.start) (seen_by (type_of ps) r.start.seen a)
+  pub said : Verdict
+  pub wanted : IsWanted (type_of ps) a said
+  pub start : (turned r).start ≡ advanced (sending r.start) (seen_by r.start.seen a said)
   pub each : Each (λ i s. Stood (kinds i) i (after i (stages i) a) (al_asked ss i) (sent + 1) next 0 (first_of rest) s) 0 (turned r).slaves
   pub count : length (turned r).slaves ≡ length ps
 
@@ -291,10 +297,10 @@ module _ (ps : List SlavePlan) (fs : List Feed) (ss : List SlaveState) (ends : �
 
   back-some : (stages : ℕ → Stage) (sent more here : ℕ) (a : Action) (step number : ℕ) (seen : Device) (xs : List SlaveState) → length xs ≡ length ps → IsInside (is_hardware ps) (length ps) a → Told (type_of ps) seen a
       → IsDue kinds (al_asked ss) (length ps) sent more here a → Ahead kinds stages (al_asked ss) sent more here number a 0 xs (datagram_of a number)
-      → verdict (length ps) step seen (type_of ps) a (all_passed xs (datagram_of a number)) ≡ wanted (type_of ps) a
+      → IsWanted (type_of ps) a (verdict (length ps) step seen (type_of ps) a (all_passed xs (datagram_of a number)))
   back-some stages sent more here a step number seen [] e inside told due h = absurd (omega (arith, path.some, e))
   back-some stages sent more here a step number seen (s ∷ xs) e inside told due h =
-      subst (λ (n : ℕ). verdict n step seen (type_of ps) a (all_passed (s ∷ xs) (datagram_of a number)) ≡ wanted (type_of ps) a) e
+      subst (λ (n : ℕ). IsWanted (type_of ps) a (verdict n step seen (type_of ps) a (all_passed (s ∷ xs) (datagram_of a number)))) e
       (comes-back kinds stages (al_asked ss) sent more here number step seen (type_of ps) (is_hardware ps) s xs a (λ t l. path.types t (omega (arith, l, e))) (λ t which l. path.big t which (omega (arith, l, e)))
       (λ q i l. bare-at i (omega (arith, l, e)) q) (subst (λ (n : ℕ). IsInside (is_hardware ps) n a) (sym e) inside) told
       (subst (λ (n : ℕ). IsDue kinds (al_asked ss) n sent more here a) (sym e) due) h)
@@ -386,6 +392,7 @@ module _ (ps : List SlavePlan) (fs : List Feed) (ss : List SlaveState) (ends : �
       let next : ℕ = more_of (next_of n p a) a (first_of rest) in
       let here = here-of stages n p a rest r h all-fed in
       let due = due-of ps fs ss n p a r.start.polls r.start.fed as_many last (own-each fs a r.start.fed h.fed_none all-fed) h.counted in
+      let v : Verdict = verdict (length ps) r.start.place r.start.seen (type_of ps) a (all_passed r.slaves d) in
       let back = back-some stages (sent_at fs n a r) (more_of n p a) (here_at fs a r) a r.start.place number r.start.seen r.slaves h.count h.inside h.told due here in
       let done : MayEnd a (all_passed r.slaves d) = ends-by (length ps) r.start.place r.start.seen ps a (all_passed r.slaves d) back in
       let suits : (i : ℕ) → i < 0 + length r.slaves → Suits (kinds i) (first_of rest) × IsPaced (kinds i) i a (first_of rest) next
@@ -395,14 +402,16 @@ module _ (ps : List SlavePlan) (fs : List Feed) (ss : List SlaveState) (ends : �
       (λ e. one-frame stages n p a rest r h last e) here in
       let size : length (all_met r.slaves d) ≡ length ps = all-met-length r.slaves d ∙ h.count in
       record {
-        start = ap (judged (sending r.start)) (verdict-is stages n p a rest r h act ∙ back) ∙ judged-wanted (type_of ps) (sending r.start) a act;
+        said = v;
+        wanted = back;
+        start = ap (judged (sending r.start)) (verdict-is stages n p a rest r h act) ∙ judged-wanted (type_of ps) (sending r.start) a v act back;
         each = subst (λ (x : Action). Each (λ i s. Stood (kinds i) i (after i (stages i) a) (al_asked ss i) (sent_at fs n a r + 1) next 0 (first_of rest) s) 0 (map served (all_met r.slaves (datagram_of x number)))) (sym act)
             (each-served (λ i t. After (kinds i) i (stages i) (al_asked ss i) (sent_at fs n a r) next a (first_of rest) (all_passed r.slaves d) t)
             (λ i s. Stood (kinds i) i (after i (stages i) a) (al_asked ss i) (sent_at fs n a r + 1) next 0 (first_of rest) s) 0 (length ps)
             (all_met r.slaves d) (omega (arith, size))
             (λ i t l k. record {
               stands = stands-served (kinds i) i (after i (stages i) a) false t (k.met.ended done);
-              spelled = spelled-on (kinds i).device t (served t) (settles t).image k.spelled;
+              spelled = spelled-on (kinds i) t (served t) (settles t).image k.spelled;
               sure = k.sure (k.met.ended done);
               late = k.late (k.met.ended done);
               dry = k.dry (k.met.ended done);
@@ -440,7 +449,7 @@ module _ (ps : List SlavePlan) (fs : List Feed) (ss : List SlaveState) (ends : �
             (all_met r.slaves d) (omega (arith, size))
             (λ i t l k. record {
               stands = stands-served (kinds i) i (stages i) false t (k.met.repeated again);
-              spelled = spelled-on (kinds i).device t (served t) (settles t).image k.spelled;
+              spelled = spelled-on (kinds i) t (served t) (settles t).image k.spelled;
               sure = k.sure (k.met.repeated again);
               late = k.late (k.met.repeated again);
               dry = k.dry (k.met.repeated again);
@@ -563,7 +572,7 @@ module _ (ps : List SlavePlan) (fs : List Feed) (ss : List SlaveState) (ends : �
         idle = ap (λ (s : StartState). s.phase) t.start ∙ if_true _ _ _ on;
         ahead = ap (λ (s : StartState). drop s.place (script ps)) t.start ∙ sp.on;
         count = applied-length (turned r).slaves xs app ∙ t.count;
-        told = subst (λ (s : StartState). Told (type_of ps) s.seen b) (sym t.start) (told-next (type_of ps) r.start.seen (is_hardware ps) (length ps) a b h.chained.1 h.chained.0 h.told);
+        told = subst (λ (s : StartState). Told (type_of ps) s.seen b) (sym t.start) (told-next (type_of ps) r.start.seen t.said (is_hardware ps) (length ps) a b h.chained.1 h.chained.0 t.wanted h.told);
         inside = h.chained.1;
         sendable = h.chained.2;
         chained = h.chained.3;
@@ -707,98 +716,3 @@ module _ (ps : List SlavePlan) (fs : List Feed) (ss : List SlaveState) (ends : �
       (λ l. record { idle = h.idle; good = good-next stages n p a rest r h; next_number = z }, λ q. absurd (omega (arith, q, more, w, fed)))
   rises stages n p a rest r h (suc k) e (Turns _ _ _ xs app more) =
       onward stages n p a rest r h k e xs app (λ later m q b bs now. rises later m q b bs (rising (turned r).start xs) now k e more) more
-
--- ---- the script as a walk: each wait stands right behind what it waits for
-
--- actions that may stand behind any
-abbrev pub Free : Bool → ℕ → List Action → Type 0
-Free hw n xs = (p : Action) → Chained hw n p xs
-
-chain-append : (hw : Bool) (n : ℕ) (p : Action) (xs bs : List Action) → Chained hw n p xs → Free hw n bs → Chained hw n p (xs ++ bs)
-chain-append hw n p [] bs h k = k p
-chain-append hw n p (a ∷ xs) bs h k = (h.0, h.1, h.2, chain-append hw n a xs bs h.3 k)
-
-free-append : (hw : Bool) (n : ℕ) (xs bs : List Action) → Free hw n xs → Free hw n bs → Free hw n (xs ++ bs)
-free-append hw n xs bs h k = λ p. chain-append hw n p xs bs (h p) k
-
--- a plan whose slave can be reached, and has numbers for its managers
-pub record IsFree (hw : Bool) (q : SlavePlan) : Type 0 where
-  pub reach : CanReach q.kind.mailbox
-  pub numbered : AreNumbered q.kind.hardware
-  pub alike : is_some q.kind.hardware ≡ hw
-
-each-free : (f : ℕ → SlavePlan → List Action) (hw : Bool) (n k : ℕ) (ps : List SlavePlan) → k + length ps ≤ n → ((i : ℕ) → i < length ps → IsFree hw (plan_at ps i))
-    → ((t : ℕ) (q : SlavePlan) → t < n → IsFree hw q → Free hw n (f t q)) → Free hw n (each_slave f k ps)
-each-free f hw n k [] l r h = λ p. tt
-each-free f hw n k (q ∷ ps) l r h = free-append hw n (f k q) (each_slave f (k + 1) ps) (h k q (omega (arith, l)) (r 0 (omega arith))) (each-free f hw n (k + 1) ps (omega (arith, l)) (λ i b. r (suc i) (omega (arith, b))) h)
-
-settled-free : (hw : Bool) (n t : ℕ) (o : Option Hardware) → t < n → is_some o ≡ hw → Free hw n (settled_by t o)
-settled-free hw n t None l e = λ p. tt
-settled-free hw n t (Some h) l e = elim h.has_firmware as (λ b. Free hw n (if b then AwaitCleanInit t ∷ [] else [])) [ true ↦ (λ p. (tt, (l, sym e), tt, tt)) | false ↦ (λ p. tt) ]
-
-identified-free : (hw : Bool) (n t : ℕ) (q : SlavePlan) → t < n → Free hw n (identified t q)
-identified-free hw n t q l =
-    λ p. (tt, (l, omega arith), tt, (refl, (l, omega arith), tt, (refl, (l, omega arith), tt, (refl, (l, omega arith), tt, (refl, (l, omega arith), tt, (refl, (l, omega arith), tt, tt))))))
-
--- a manager of a role under its number
-manager-number : (hw : Bool) (n t k : ℕ) (q : SlavePlan) → t < n → k < 4 → AreNumbered q.kind.hardware → IsInside hw n (set_manager t q k) × IsSendable (set_manager t q k)
-manager-number hw n t k q l f a = let b : manager_number q.kind.hardware k < 4 = a.few k f in ((l, b), b)
-
-mailbox-free : (hw : Bool) (n t : ℕ) (q : SlavePlan) (o : Option Mailbox) → t < n → AreNumbered q.kind.hardware → Free hw n (mailbox_set t q o)
-mailbox-free hw n t q None l a = λ p. tt
-mailbox-free hw n t q (Some b) l a =
-    let x = manager-number hw n t 0 q l (omega arith) a in
-    let y = manager-number hw n t 1 q l (omega arith) a in
-    λ p. (tt, x.0, x.1, (tt, y.0, y.1, tt))
-
-raised-free : (hw : Bool) (n t : ℕ) (to : State) (q : SlavePlan) → t < n → Free hw n (raised to t q)
-raised-free hw n t to q l = λ p. (tt, l, tt, (refl, l, tt, tt))
-
-exchanged-free : (hw : Bool) (n t counter : ℕ) (b : Mailbox) (rs : List SdoRequest) → t < n → IsReachable b → Free hw n (exchanged hw t b counter rs)
-exchanged-free hw n t counter b [] l r = λ p. tt
-exchanged-free true n t counter b (x ∷ rs) l r = λ p. (tt, l, r, ((counter, refl), (l, refl), r, exchanged-free true n t (counter + 1) b rs l r (AwaitFreeReply t b x)))
-exchanged-free false n t counter b (x ∷ rs) l r = λ p. (tt, l, r, ((counter, refl), (l, refl), r, exchanged-free false n t (counter + 1) b rs l r (AwaitReply t b x)))
-
-talked-free : (hw : Bool) (n t : ℕ) (q : SlavePlan) (o : Option Mailbox) → t < n → CanReach o → is_some q.kind.hardware ≡ hw → Free hw n (talked t q o)
-talked-free hw n t q None l r e = λ p. tt
-talked-free hw n t q (Some b) l r e = subst (λ (x : Bool). Free hw n (exchanged x t b 0 (requests q))) (sym e) (exchanged-free hw n t 0 b (requests q) l r)
-
-manager-free : (hw : Bool) (n t k : ℕ) (q : SlavePlan) (b : Bool) → t < n → k < 4 → AreNumbered q.kind.hardware → Free hw n (if b then [] else set_manager t q k ∷ [])
-manager-free hw n t k q true l f a = λ p. tt
-manager-free hw n t k q false l f a = let x = manager-number hw n t k q l f a in λ p. (tt, x.0, x.1, tt)
-
-fmmu-free : (hw : Bool) (n t k : ℕ) (q : SlavePlan) (b : Bool) → t < n → k < 4 → Free hw n (fmmu_set t q k b)
-fmmu-free hw n t k q true l f = λ p. (tt, l, f, tt)
-fmmu-free hw n t k q false l f = λ p. tt
-
-mapped-free : (hw : Bool) (n t : ℕ) (q : SlavePlan) → t < n → AreNumbered q.kind.hardware → Free hw n (mapped t q)
-mapped-free hw n t q l a =
-    free-append hw n _ _ (manager-free hw n t 2 q ((settings_at q.managers 2).activate == 0) l (omega arith) a)
-    (free-append hw n _ _ (manager-free hw n t 3 q ((settings_at q.managers 3).activate == 0) l (omega arith) a)
-    (free-append hw n _ _ (fmmu-free hw n t 0 q (fmmu_at q.fmmus 0).active l (omega arith)) (fmmu-free hw n t 1 q (fmmu_at q.fmmus 1).active l (omega arith))))
-
--- what is asked of all at the beginning, behind the frame that counts the slaves
-opened-chained : (hw : Bool) (n : ℕ) → Chained hw n CountSlaves (opened hw)
-opened-chained true n = (refl, tt, tt, (refl, refl, tt, (tt, tt, tt, (tt, tt, tt, (tt, tt, tt, (tt, tt, tt, (tt, tt, tt, (tt, tt, tt, tt))))))))
-opened-chained false n = (refl, tt, tt, (refl, refl, tt, (tt, refl, tt, (tt, tt, tt, (tt, tt, tt, tt)))))
-
-closed-free : (hw : Bool) (n : ℕ) → Free hw n (closed hw)
-closed-free true n = λ p. (tt, tt, tt, tt)
-closed-free false n = λ p. tt
-
-pub phases-chained : (ps : List SlavePlan) → ((i : ℕ) → i < length ps → IsFree (is_hardware ps) (plan_at ps i)) → Chained (is_hardware ps) (length ps) CountSlaves (phases ps)
-phases-chained ps r =
-    let k : 0 + length ps ≤ length ps = omega arith in
-    let hw : Bool = is_hardware ps in
-    let n : ℕ = length ps in
-    chain-append hw n CountSlaves (opened hw) _ (opened-chained hw n)
-    (free-append hw n (each_slave named 0 ps) _ (each-free named hw n 0 ps k r (λ t q l c p. (tt, l, tt, tt)))
-    (free-append hw n (each_slave settled 0 ps) _ (each-free settled hw n 0 ps k r (λ t q l c. settled-free hw n t q.kind.hardware l c.alike))
-    (free-append hw n (each_slave identified 0 ps) _ (each-free identified hw n 0 ps k r (λ t q l c. identified-free hw n t q l))
-    (free-append hw n (closed hw) _ (closed-free hw n)
-    (free-append hw n (each_slave (λ i q. mailbox_set i q q.kind.mailbox) 0 ps) _ (each-free (λ i q. mailbox_set i q q.kind.mailbox) hw n 0 ps k r (λ t q l c. mailbox-free hw n t q q.kind.mailbox l c.numbered))
-    (free-append hw n (each_slave (raised PreOp) 0 ps) _ (each-free (raised PreOp) hw n 0 ps k r (λ t q l c. raised-free hw n t PreOp q l))
-    (free-append hw n (each_slave (λ i q. talked i q q.kind.mailbox) 0 ps) _ (each-free (λ i q. talked i q q.kind.mailbox) hw n 0 ps k r (λ t q l c. talked-free hw n t q q.kind.mailbox l c.reach c.alike))
-    (free-append hw n (each_slave mapped 0 ps) _ (each-free mapped hw n 0 ps k r (λ t q l c. mapped-free hw n t q l c.numbered))
-    (free-append hw n (each_slave (raised SafeOp) 0 ps) _ (each-free (raised SafeOp) hw n 0 ps k r (λ t q l c. raised-free hw n t SafeOp q l))
-    (each-free (raised Op) hw n 0 ps k r (λ t q l c. raised-free hw n t Op q l)))))))))))

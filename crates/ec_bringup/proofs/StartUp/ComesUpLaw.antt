@@ -1,12 +1,14 @@
 -- An undisturbed start-up ends Ready.
 use Rattle.ec_bringup.proofs.Words.{ℕ, zero, suc, ◌+◌, ◌^◌, ◌<◌, ◌≤◌, ◌≡◌, false, refl, sym, ◌∙◌, subst, inl, arith, List, [], ◌∷◌, length, Device, SlaveState, SlavePlan, CountSlaves, phases, begun, type_of, Before, Up, end_of, Stands, IsIdentity, AreDevices, ArePlans, Rising, unplanned, plan_at, slave_of, rising, TurnsTo, AppliedStays as Stays, Turns, AppliedUpLaw, IsOnItsWay, ComesUpLaw, CompiledUpLaw, IsUpAndWorks, IsBroughtUp, StandsUpLaw, both_ways, Works, SlaveHealth, Working, Faulted, WasReset, plan_of, Feed, feeds_of, frames_up, ArePlansWith, AllAgree, Option, Mailbox, prepared, asked_all, None}
+use Rattle.ec_bringup.proofs.Words.{WantedDevice, wanted_of}
 use Rattle.ec_bringup.proofs.Script.Walks.{script-walks, script-named, asked-frame}
 use Rattle.ec_bringup.proofs.Mailbox.SendRequest.{datagram-good}
 use Rattle.ec_bringup.proofs.OneFrame.Commands.{word_of}
 use Rattle.ec_bringup.proofs.AllSlaves.FramePasses.{Each}
 use Rattle.ec_bringup.proofs.AllSlaves.Applications.{Stood, turns-to}
 use Rattle.ec_bringup.proofs.Script.Polls.{al_asked, slow-any}
-use Rattle.ec_bringup.proofs.Script.IsPath.{IsPath, IsNow, rises, phases-chained, each-none}
+use Rattle.ec_bringup.proofs.Script.Chained.{phases-chained}
+use Rattle.ec_bringup.proofs.Script.IsPath.{IsPath, IsNow, rises, each-none}
 use Rattle.ec_bringup.proofs.AllSlaves.NextAction.{Bears}
 use Rattle.ec_bringup.proofs.Script.ChecksGranted.{bears-all, no-outputs}
 use Rattle.ec_bringup.proofs.Script.CompiledPlansLaw.{are-plans}
@@ -27,7 +29,7 @@ each-at P j k [] l h = absurd (omega (arith, l))
 each-at P j zero (s ∷ ss) l h = let z : j ≡ j + 0 = omega arith in subst (λ (x : ℕ). P x s) z h.0
 each-at P j (suc k) (s ∷ ss) l h = let w : j + 1 + k ≡ j + suc k = omega arith in subst (λ (x : ℕ). P x (slave_of ss k)) w (each-at P (j + 1) k ss (omega (arith, l)) h.1)
 
-types-of : (ps : List SlavePlan) (t : ℕ) → t < length ps → (type_of ps t).device ≡ (plan_at ps t).kind.device
+types-of : (ps : List SlavePlan) (t : ℕ) → t < length ps → type_of ps t ≡ wanted_of (plan_at ps t).kind
 types-of [] t l = absurd (omega (arith, l))
 types-of (p ∷ ps) zero l = refl
 types-of (p ∷ ps) (suc t) l = types-of ps t (omega (arith, l))
@@ -44,7 +46,7 @@ is-path p ps fs few h = record {
   some = omega arith;
   few = few;
   types = λ t l. types-of (p ∷ ps) t l;
-  big = λ t which l. subst (λ (x : Device). word_of x which < 2 ^ 32) (sym (types-of (p ∷ ps) t l)) (big-word (plan_at (p ∷ ps) t).kind.device which (h.plans.complete t l).identity);
+  big = λ t which l. subst (λ (x : WantedDevice). word_of x.device which < 2 ^ 32) (sym (types-of (p ∷ ps) t l)) (big-word (plan_at (p ∷ ps) t).kind.device which (h.plans.complete t l).identity);
   slow = slow-any (p ∷ ps) (λ i l. (h.plans.complete i l).slow);
   alike = h.plans.alike;
   feeds = h.feeds;

@@ -1,5 +1,5 @@
 -- A start-up that nothing disturbs takes few frames, whatever state its slaves are in.
-use Rattle.ec_bringup.proofs.Words.{ℕ, ◌<◌, arith, List, [], ◌∷◌, SlaveState, SlavePlan, Feed, CountSlaves, phases, script, frames_up, FramesAreFew}
+use Rattle.ec_bringup.proofs.Words.{◌<◌, arith, List, [], ◌∷◌, SlaveState, SlavePlan, Feed, CountSlaves, phases, script, frames_up, FramesAreFew}
 use Rattle.ec_bringup.proofs.Script.Polls.{behind-few, behind-more, slow-any}
 
 -- the first counts the slaves

@@ -3,7 +3,7 @@ use Rattle.std.proofs.Math.Nat.{div-le_self}
 use Rattle.ec_bringup.proofs.Words.{ℕ, zero, suc, slice_get, ◌+◌, ◌*◌, ◌<◌, ◌≡◌, Bool, true, false, Option, Some, None, refl, ◌∙◌, ap, subst, arith, if◌then◌else◌, List, [], ◌∷◌, length, both_ways, is_some, has_some, SlaveState, Action, CountSlaves, AwaitInitState, AwaitCleanInit, AwaitState, AwaitFreeReply, is_fed, Feed, SlavePlan, plan_at, phases, script, begun, is_hardware, rising, turns, ArePlans, IsUpAndWorks, PlainUpLaw, Hardware, steps_slow, polls_more, frames_each, frames_behind, frames_up}
 use Rattle.ec_bringup.specs.Fed.{AreFeedsOf, ArePredicted}
 use Rattle.ec_bringup.proofs.AllSlaves.FramePasses.{IsInside}
-use Rattle.ec_bringup.proofs.Script.IsPath.{Chained, phases-chained}
+use Rattle.ec_bringup.proofs.Script.Chained.{Chained, phases-chained}
 use Rattle.ec_bringup.proofs.StartUp.ComesUpLaw.{comes-up}
 
 no-feeds : (ps : List SlavePlan) → AreFeedsOf ps []

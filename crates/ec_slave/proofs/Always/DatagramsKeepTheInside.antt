@@ -6,7 +6,7 @@ use Rattle.ec_regs.specs.Managers.{is_mailbox}
 use Rattle.ec_frame.specs.declared.command.Command.{Command}
 use Rattle.ec_frame.specs.declared.command.Command.TheVariants.{Nop, Aprd, Apwr, Aprw, Fprd, Fpwr, Fprw, Brd, Bwr, Brw, Lrd, Lwr, Lrw, Armw, Frmw}
 use Rattle.ec_frame.specs.Datagram.{Datagram, adp_of}
-use Rattle.ec_sync.specs.SyncManager.{SyncManager, empty_manager, ring_written, ring_read}
+use Rattle.ec_sync.specs.SyncManager.{SyncManager, configured, ring_written, ring_read}
 use Rattle.ec_sync.specs.Buffer.{publishing}
 use Rattle.ec_fmmu.specs.Applied.{LogicalSpan, touched_by_reading, touched_by_writing}
 use Rattle.ec_al.specs.Al.{Al, requesting}
@@ -61,7 +61,7 @@ met-locked : (o : Option Hardware) (lower : List SyncManager) (reads writes : Bo
 unfolding physical_manager
 met-locked o lower reads writes w n m = by (writes && is_configured o w n)
   where
-    by : (b : Bool) → locked_of (if b then empty_manager (settings_written o w n m) m.locked else manager_after reads writes (touches w) (touches w) (is_ungoverned lower) (physical_value lower w) m) ≡ m.locked
+    by : (b : Bool) → locked_of (if b then configured m (settings_written o w n m) else manager_after reads writes (touches w) (touches w) (is_ungoverned lower) (physical_value lower w) m) ≡ m.locked
     by true = refl
     by false = after-locked reads writes (touches w) (touches w) (is_ungoverned lower) (physical_value lower w) m
 
@@ -96,8 +96,8 @@ met-quiet : (o : Option Hardware) (lower : List SyncManager) (reads writes : Boo
 unfolding physical_manager
 met-quiet o lower reads writes w n m e = by (writes && is_configured o w n)
   where
-    by : (b : Bool) → awaited_of (if b then empty_manager (settings_written o w n m) m.locked else manager_after reads writes (touches w) (touches w) (is_ungoverned lower) (physical_value lower w) m) ≡ false
-    by true = refl
+    by : (b : Bool) → awaited_of (if b then configured m (settings_written o w n m) else manager_after reads writes (touches w) (touches w) (is_ungoverned lower) (physical_value lower w) m) ≡ false
+    by true = e
     by false = after-quiet reads writes (touches w) (touches w) (is_ungoverned lower) (physical_value lower w) m e
 
 all-met-quiet : (o : Option Hardware) (lower ms : List SyncManager) (reads writes : Bool) (w : Window) (n k : ℕ) → (manager_at ms k).awaited ≡ false

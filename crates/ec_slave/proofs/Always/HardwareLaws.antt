@@ -25,8 +25,8 @@ use Rattle.ec_slave.specs.State.{SlaveState, manager_at, power_on}
 use Rattle.ec_slave.specs.Physical.{as_shown, byte_at, is_missing, numbered_byte, setting_for}
 use Rattle.ec_slave.specs.Application.{is_running, output_got, output_taken, with_manager}
 use Rattle.ec_slave.specs.Checking.{checks_of, control_word}
-use Rattle.ec_slave.specs.Faulting.{faulted, locked_empty}
-use Rattle.ec_slave.specs.Serving.{al_decided, has_outputs, is_slow, is_awaiting, greets_by, managers_decided, replies_decided, is_init, is_preop, is_safeop, managers_entered, outputs_awaited, read_finished, request_decided, served, unlocked_empty, with_al}
+use Rattle.ec_slave.specs.Faulting.{faulted, locked_empty, outputs_lost}
+use Rattle.ec_slave.specs.Serving.{al_decided, awaited_by, awaited_if, has_outputs, is_slow, is_awaiting, greets_by, managers_decided, replies_decided, is_init, is_preop, is_safeop, managers_entered, outputs_awaited, read_finished, request_decided, served, unlocked_empty, with_al}
 use Rattle.ec_slave.specs.Showing.{after_all}
 use Rattle.ec_slave.specs.Steps.{Happening, Meets, Serves, Faults, Puts, Gets, Resets, after_one}
 use Rattle.ec_slave.specs.HardwareLaws.{naming_manager, SlavesTakeNames, MissingFmmusReadZero, StatusIsCopied, OutputsComeFirst, AwaitsOutsideOp, SwitchedOnAwaitsNothing, OutputsAreAwaitedOutsideOp}
@@ -113,7 +113,7 @@ unfolding faulted
 fault-memory s = by (is_operational s.al.state)
   where
     t : SlaveState
-    t = record s { managers = slice_set s.managers 2 (locked_empty (manager_at s.managers 2)) }
+    t = record s { managers = slice_set s.managers 2 (outputs_lost s) }
 
     by : (b : Bool) → (let x : SlaveState = if b then record t { al = al.faulted s.al } else s in (x.kind ≡ s.kind) × (x.memory ≡ s.memory))
     by true = (refl, refl)
@@ -196,7 +196,7 @@ outputs_first s h hw fw other now =
 
 -- ---- what is awaited
 
-abbrev awaited_of : SyncManager → Bool
+abbrev pub awaited_of : SyncManager → Bool
 awaited_of m = m.awaited
 
 abbrev AreQuiet : List SyncManager → Type 0
@@ -240,7 +240,7 @@ either-awaited : (b : Bool) (x m : SyncManager) → awaited_of x ≡ m.awaited �
 either-awaited true x m e = e
 either-awaited false x m e = refl
 
-put-awaited : (m : SyncManager) (bytes : List ℕ) → awaited_of (message_put m bytes) ≡ m.awaited
+pub put-awaited : (m : SyncManager) (bytes : List ℕ) → awaited_of (message_put m bytes) ≡ m.awaited
 put-awaited m bytes = either-awaited (may_put_message m (length bytes)) _ m refl
 
 decided-quiet : (s : SlaveState) → Unwanting s.kind.hardware → AreQuiet s.managers → AreQuiet (request_decided s).managers
@@ -255,7 +255,7 @@ decided-quiet s u q n = ap (λ (t : SlaveState). awaited_of (manager_at t.manage
     by false = q n
 
 -- behind the decision a firmware step leaves what is awaited
-rest-awaited : (s : SlaveState) (n : ℕ) → (manager_at (served s).managers n).awaited ≡ (manager_at (request_decided s).managers n).awaited
+pub rest-awaited : (s : SlaveState) (n : ℕ) → (manager_at (served s).managers n).awaited ≡ (manager_at (request_decided s).managers n).awaited
 rest-awaited s n =
     ap (λ (t : SlaveState). awaited_of (manager_at t.managers n)) (three_parts s)
     ∙ ((messages_keep (read_finished (request_decided s))).awaited n
@@ -269,7 +269,7 @@ op-entered : (o : Option Hardware) (outputs : Bool) (old new : State) (ms : List
 op-entered None outputs old new ms e = ap (λ (x : State). managers_entered old x ms) e
 op-entered (Some h) outputs old new ms e = ap (λ (x : State). outputs_awaited (Some h) outputs old x (managers_entered old x ms)) e
 
-op_or_not : (s : State) → (s ≡ Op) ⊎ (s ≢ Op)
+pub op_or_not : (s : State) → (s ≡ Op) ⊎ (s ≢ Op)
 op_or_not Init = inr (λ e. cc)
 op_or_not PreOp = inr (λ e. cc)
 op_or_not SafeOp = inr (λ e. cc)
@@ -316,15 +316,21 @@ met-stays s t k state left q = record {
   without_firmware = λ e n. left n (q.without_firmware (ap (λ (x : SlaveKind). has_firmware x.hardware) (sym k) ∙ e) n);
 }
 
-safeop-op : SafeOp ≡ Op → ⊥
+pub safeop-op : SafeOp ≡ Op → ⊥
 safeop-op e = cc
+
+-- what a fault leaves is awaited by firmware of real devices alone
+lost-quiet : (o : Option Hardware) (outputs : Bool) (m : SyncManager) → Unwanting o → awaited_of (awaited_if (awaited_by o outputs Op SafeOp) (locked_empty m)) ≡ false
+lost-quiet None outputs m u = refl
+lost-quiet (Some h) outputs m (inl e) = cc
+lost-quiet (Some h) outputs m (inr e) = and_left _ _ e
 
 fault-stays : (s : SlaveState) → AwaitsOutsideOp s → AwaitsOutsideOp (faulted s)
 unfolding faulted
 fault-stays s q = by s.al.state refl
   where
     t : SlaveState
-    t = record s { al = al.faulted s.al; managers = slice_set s.managers 2 (locked_empty (manager_at s.managers 2)) }
+    t = record s { al = al.faulted s.al; managers = slice_set s.managers 2 (outputs_lost s) }
 
     fallen : s.al.state ≡ Op → t.al.state ≡ SafeOp
     fallen e = ap (λ (x : State). (if is_operational x then record { state = SafeOp; error = true; code = 1; requested = s.al.requested; waited = s.al.waited } else s.al).state) e
@@ -333,32 +339,36 @@ fault-stays s q = by s.al.state refl
     by Init e = q
     by PreOp e = q
     by SafeOp e = q
-    by Op e = met-stays s t refl (λ f. absurd (safeop-op (sym (fallen e) ∙ f))) (λ n z. set-quiet s.managers 2 n (locked_empty (manager_at s.managers 2)) refl z) q
+    by Op e = record {
+      in_op = λ f. absurd (safeop-op (sym (fallen e) ∙ f));
+      plain = λ f n. set-quiet s.managers 2 n (outputs_lost s) (lost-quiet s.kind.hardware (has_outputs s) (manager_at s.managers 2) (inl f)) (q.plain f n);
+      without_firmware = λ f n. set-quiet s.managers 2 n (outputs_lost s) (lost-quiet s.kind.hardware (has_outputs s) (manager_at s.managers 2) (inr f)) (q.without_firmware f n);
+    }
 
 -- the application changes a buffer
-put-quiet : (m : SyncManager) (b : Bool) (o : Option Buffer) (x : SyncManager) → (if b then option_map (λ (y : Buffer). record m { buffer = y }) o else None) ≡ Some x → x.awaited ≡ m.awaited
+pub put-quiet : (m : SyncManager) (b : Bool) (o : Option Buffer) (x : SyncManager) → (if b then option_map (λ (y : Buffer). record m { buffer = y }) o else None) ≡ Some x → x.awaited ≡ m.awaited
 put-quiet m true None x e = cc
 put-quiet m true (Some y) x e = let f : record m { buffer = y } ≡ x = cc in ap awaited_of (sym f)
 put-quiet m false o x e = cc
 
-alike-quiet : (ms : List SyncManager) (k n : ℕ) (x : SyncManager) → x.awaited ≡ (manager_at ms k).awaited → (manager_at ms n).awaited ≡ false → (manager_at (slice_set ms k x) n).awaited ≡ false
-alike-quiet [] k n x e w = w
-alike-quiet (y ∷ ms) zero zero x e w = e ∙ w
-alike-quiet (y ∷ ms) zero (suc n) x e w = w
-alike-quiet (y ∷ ms) (suc k) zero x e w = w
-alike-quiet (y ∷ ms) (suc k) (suc n) x e w = alike-quiet ms k n x e w
+pub alike-awaited : (ms : List SyncManager) (k n : ℕ) (x : SyncManager) → x.awaited ≡ (manager_at ms k).awaited → (manager_at (slice_set ms k x) n).awaited ≡ (manager_at ms n).awaited
+alike-awaited [] k n x e = refl
+alike-awaited (y ∷ ms) zero zero x e = e
+alike-awaited (y ∷ ms) zero (suc n) x e = refl
+alike-awaited (y ∷ ms) (suc k) zero x e = refl
+alike-awaited (y ∷ ms) (suc k) (suc n) x e = alike-awaited ms k n x e
 
 put-stays : (s : SlaveState) (b : Bool) (o : Option SyncManager) (t : SlaveState) → ((x : SyncManager) → o ≡ Some x → x.awaited ≡ (manager_at s.managers 3).awaited)
     → (if b then option_map (with_manager s 3) o else None) ≡ Some t → AwaitsOutsideOp s → AwaitsOutsideOp t
 put-stays s true None t h e q = cc
 put-stays s true (Some m) t h e q =
     let same : with_manager s 3 m ≡ t = cc in
-    subst AwaitsOutsideOp same (met-stays s (with_manager s 3 m) refl (λ f. f) (λ n z. alike-quiet s.managers 3 n m (h m refl) z) q)
+    subst AwaitsOutsideOp same (met-stays s (with_manager s 3 m) refl (λ f. f) (λ n z. alike-awaited s.managers 3 n m (h m refl) ∙ z) q)
 put-stays s false o t h e q = cc
 
 got-stays : (s : SlaveState) (o : Option Got) → AwaitsOutsideOp s → AwaitsOutsideOp (output_taken s o)
 got-stays s None q = q
-got-stays s (Some g) q = met-stays s (output_taken s (Some g)) refl (λ f. f) (λ n z. alike-quiet s.managers 2 n (after_get (manager_at s.managers 2) (Some g)) refl z) q
+got-stays s (Some g) q = met-stays s (output_taken s (Some g)) refl (λ f. f) (λ n z. alike-awaited s.managers 2 n (after_get (manager_at s.managers 2) (Some g)) refl ∙ z) q
 
 four-quiet : (n : ℕ) → (manager_at (no_manager ∷ no_manager ∷ no_manager ∷ no_manager ∷ []) n).awaited ≡ false
 four-quiet zero = refl

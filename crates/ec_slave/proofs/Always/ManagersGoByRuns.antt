@@ -25,9 +25,9 @@ use Rattle.ec_slave.specs.AgainstAll.{each_from, governs_among, value_among, bit
 use Rattle.ec_slave.specs.Logical.{meets_logically, span_of}
 use Rattle.ec_slave.specs.Meeting.{meets, meets_by, meets_physically, window_of}
 use Rattle.ec_slave.specs.Application.{is_running, with_manager, output_taken}
-use Rattle.ec_slave.specs.Serving.{served, al_decided, has_outputs, is_slow, is_awaiting, waited_once, outputs_awaited, emergency_put, greets_by, replies_decided, reply_counter, with_al, request_decided, read_finished, message_served, managers_entered, unlocked_empty, reply_given, request_in, refusal_in, sent, bytes_to, is_served, is_init, is_safeop, is_preop}
-use Rattle.ec_slave.specs.Faulting.{faulted}
-use Rattle.ec_slave.specs.Steps.{AccessesAreSteps, IsRunTo, ManagersGoByRuns, is_of_ring, is_of_firmware, is_of_application, said_from, to_each, to_one, access_steps, physical_steps, logical_steps, steps_met, steps_awaited, steps_entered, steps_greeted, steps_decided, steps_to, bytes_back, message_steps, steps_answered}
+use Rattle.ec_slave.specs.Serving.{served, al_decided, awaited_by, awaited_if, has_outputs, is_slow, is_awaiting, waited_once, outputs_awaited, emergency_put, greets_by, replies_decided, reply_counter, with_al, request_decided, read_finished, message_served, managers_entered, unlocked_empty, reply_given, request_in, refusal_in, sent, bytes_to, is_served, is_init, is_safeop, is_preop}
+use Rattle.ec_slave.specs.Faulting.{faulted, locked_empty}
+use Rattle.ec_slave.specs.Steps.{AccessesAreSteps, IsRunTo, ManagersGoByRuns, is_of_ring, is_of_firmware, is_of_application, said_from, to_each, to_one, access_steps, physical_steps, logical_steps, steps_met, steps_awaited, steps_entered, steps_greeted, steps_decided, steps_said, steps_to, bytes_back, message_steps, steps_answered}
 use Rattle.ec_slave.proofs.Memory.AgainstAll.{physical_against_all, logical_against_all}
 use Rattle.ec_slave.proofs.AppAccess.WholeInputs.{both_true}
 
@@ -391,11 +391,20 @@ served_run s n =
     then_run is_of_firmware 2 1 (steps_decided s n) (steps_answered u n) _ (manager_at u.managers n) _
     (subst (λ (ms : List SyncManager). IsRunTo is_of_firmware 2 (steps_decided s n) (manager_at s.managers n) (manager_at ms n)) (sym (same_managers t)) (decided_run s n)) (message_run u n)
 
-faulted_run : (s : SlaveState) → SlaveRuns is_of_firmware 2 (λ n. if is_operational s.al.state then to_one 2 (Lock true ∷ Empty ∷ []) s.managers n else []) s (faulted s)
+-- a manager is locked and emptied, and awaits a value if that is said
+lost_run : (o : Option Bool) (m : SyncManager) → IsRunTo is_of_firmware 3 (Lock true ∷ Empty ∷ steps_said o) m (awaited_if o (locked_empty m))
+lost_run o m = then_run is_of_firmware 2 1 (Lock true ∷ Empty ∷ []) (steps_said o) m (locked_empty m) _ (two_steps is_of_firmware m _ (Lock true) Empty refl refl refl) (said_run o (locked_empty m))
+  where
+    said_run : (o : Option Bool) (m : SyncManager) → IsRunTo is_of_firmware 1 (steps_said o) m (awaited_if o m)
+    said_run None m = no_run is_of_firmware 1 m
+    said_run (Some b) m = one_step is_of_firmware 1 m _ (Await b) (omega arith) refl refl
+
+faulted_run : (s : SlaveState) → SlaveRuns is_of_firmware 3 (λ n. if is_operational s.al.state then to_one 2 (Lock true ∷ Empty ∷ steps_said (awaited_by s.kind.hardware (has_outputs s) Op SafeOp)) s.managers n else []) s (faulted s)
 unfolding faulted
 faulted_run s =
-    either_slave is_of_firmware 2 (is_operational s.al.state) (to_one 2 (Lock true ∷ Empty ∷ []) s.managers) s _
-    (set_run is_of_firmware 2 s.managers 2 (Lock true ∷ Empty ∷ []) _ (two_steps is_of_firmware (manager_at s.managers 2) _ (Lock true) Empty refl refl refl))
+    let o : Option Bool = awaited_by s.kind.hardware (has_outputs s) Op SafeOp in
+    either_slave is_of_firmware 3 (is_operational s.al.state) (to_one 2 (Lock true ∷ Empty ∷ steps_said o) s.managers) s _
+    (set_run is_of_firmware 3 s.managers 2 (Lock true ∷ Empty ∷ steps_said o) _ (lost_run o (manager_at s.managers 2)))
 
 -- ---- the application
 

@@ -16,7 +16,7 @@ use Rattle.ec_frame.specs.declared.command.Command.{Command}
 use Rattle.ec_frame.specs.declared.command.Command.TheVariants.{Nop, Aprd, Apwr, Aprw, Fprd, Fpwr, Fprw, Brd, Bwr, Brw, Lrd, Lwr, Lrw, Armw, Frmw}
 use Rattle.ec_frame.specs.Datagram.{Datagram, adp_of}
 use Rattle.ec_sync.specs.Buffer.{publishing}
-use Rattle.ec_sync.specs.SyncManager.{SyncManager, no_manager, empty_manager, buffer_length, may_write, ring_written, ring_read}
+use Rattle.ec_sync.specs.SyncManager.{SyncManager, no_manager, awaiting, configured, empty_manager, buffer_length, may_write, ring_written, ring_read}
 use Rattle.ec_sync.specs.Sound.{IsManager}
 use Rattle.ec_sync.proofs.Lengths.{buffer_length_set}
 use Rattle.ec_sii.specs.Port.{Sii, address_byte, address_written, addressed, byte_for, command_address, commanded, written}
@@ -40,6 +40,10 @@ none_some x e = cc
 
 pub empty-sound : (m : SyncManagerSettings) (b : Bool) → IsManager (empty_manager m b)
 empty-sound m b = record { published = length-replicate {A = ℕ} (buffer_length m) 0; draft = λ d e. absurd (none_some d e); view = λ v e. absurd (none_some v e) }
+
+-- whatever is awaited
+pub awaiting-sound : (m : SyncManager) (b : Bool) → IsManager m → IsManager (awaiting m b)
+awaiting-sound m b h = record { published = h.published; draft = h.draft; view = h.view }
 
 pub no-manager-sound : IsManager no_manager
 no-manager-sound = empty-sound no_manager.settings false
@@ -75,8 +79,8 @@ met-sound : (o : Option Hardware) (lower : List SyncManager) (reads writes : Boo
 unfolding physical_manager
 met-sound o lower reads writes w n m h = by (writes && is_configured o w n)
   where
-    by : (b : Bool) → (let x : SyncManager = if b then empty_manager (settings_written o w n m) m.locked else manager_after reads writes (touches w) (touches w) (is_ungoverned lower) (physical_value lower w) m in IsManager x)
-    by true = empty-sound (settings_written o w n m) m.locked
+    by : (b : Bool) → (let x : SyncManager = if b then configured m (settings_written o w n m) else manager_after reads writes (touches w) (touches w) (is_ungoverned lower) (physical_value lower w) m in IsManager x)
+    by true = awaiting-sound (empty_manager (settings_written o w n m) m.locked) m.awaited (empty-sound (settings_written o w n m) m.locked)
     by false = after-sound reads writes (touches w) (touches w) (is_ungoverned lower) (physical_value lower w) m (λ a k. length-updated 0 (zeros k) _ ∙ length-replicate {A = ℕ} k 0) h
 
 -- ---- all of a slave

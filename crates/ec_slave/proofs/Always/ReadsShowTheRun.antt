@@ -116,7 +116,7 @@ one_led : (s : SlaveState) (h : Happening) (n : ℕ) (before : List Operation) �
     → run no_manager (steps_behind before s h n) ≡ manager_at (after_one s h).managers n
 one_led s (Meets d) n before e = further (Meets d) s is_of_ring 1 n before e (managers_go_by_runs.met s d n)
 one_led s Serves n before e = further Serves s is_of_firmware 3 n before e (managers_go_by_runs.served s n)
-one_led s Faults n before e = further Faults s is_of_firmware 2 n before e (managers_go_by_runs.faulted s n)
+one_led s Faults n before e = further Faults s is_of_firmware 3 n before e (managers_go_by_runs.faulted s n)
 one_led s (Puts place byte) n before e = further (Puts place byte) s is_of_application 1 n before e (managers_go_by_runs.put s place byte n)
 one_led s (Gets place) n before e = further (Gets place) s is_of_application 1 n before e (managers_go_by_runs.taken s place n)
 one_led s Resets n before e = on_led s.kind s.identity n

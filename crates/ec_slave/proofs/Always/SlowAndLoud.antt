@@ -1,9 +1,8 @@
 -- Slow firmware, and the emergency of a slave that enters PREOP.
-use Rattle.std.proofs.Common.{ℕ, ◌+◌, ◌*◌, ◌<◌, ◌≤◌, ◌≡◌, ◌≢◌, ◌&&◌, not, Bool, true, false, Option, Some, None, is_none, is_some, refl, sym, ◌∙◌, ap, subst, inl, inr, arith, if◌then◌else◌, List, length, slice_set, get_or-set_same, get_or-set_other}
+use Rattle.std.proofs.Common.{ℕ, ◌≤◌, ◌≡◌, not, Bool, true, false, Option, Some, None, is_some, refl, sym, ◌∙◌, ap, subst, inl, inr, arith, List, length, slice_set, get_or-set_same, get_or-set_other}
 use Rattle.std.proofs.lemmas.Bool.{and_from, and_left, and_right, cases_Bool, le-ltb, lt-ltb}
 use Rattle.ec_bits.proofs.AnyLaws.{if_true, if_false}
 use Rattle.ec_device.specs.declared.hardware.Hardware.{Hardware}
-use Rattle.ec_device.specs.Hardware.{has_emergency}
 use Rattle.ec_al.specs.Al.{Al}
 use Rattle.ec_al.specs.declared.state.State.{State}
 use Rattle.ec_al.specs.declared.state.State.TheVariants.{Init, PreOp}
@@ -12,8 +11,8 @@ use Rattle.ec_coe.specs.Messages.{message_length}
 use Rattle.ec_regs.specs.Managers.{is_mailbox, is_master_read}
 use Rattle.ec_sync.specs.SyncManager.{SyncManager, is_enabled, may_put_message, message_in, message_put, no_manager, padded}
 use Rattle.ec_slave.specs.State.{SlaveState, manager_at}
-use Rattle.ec_slave.specs.Serving.{al_decided, emergency_counted, emergency_put, greets, greets_by, has_mailbox, has_outputs, has_room, is_awaiting, is_init, is_preop, is_served, is_slow, managers_decided, managers_entered, outputs_awaited, replies_decided, replies_entered, request_decided, takes_reply, with_al}
-use Rattle.ec_slave.specs.HardwareLaws.{WaitsLong, RequestsWaitLong, Greets, HasGreeted, EmergenciesComeFirst}
+use Rattle.ec_slave.specs.Serving.{al_decided, emergency_counted, emergency_put, greets, greets_by, has_mailbox, has_outputs, is_init, is_preop, is_slow, managers_decided, managers_entered, outputs_awaited, replies_decided, replies_entered, request_decided, takes_reply, with_al}
+use Rattle.ec_slave.specs.HardwareLaws.{RequestsWaitLong, Greets, HasGreeted, EmergenciesComeFirst}
 use Rattle.ec_slave.proofs.FirmwareRuns.RestsQuietly.{decided-if, decides, lets_wait, rested, waiting-state}
 use Rattle.ec_slave.proofs.FirmwareRuns.StepLaws.{decided, put-right}
 

@@ -13,6 +13,7 @@ use Rattle.ec_sync.specs.Sound.{IsManager}
 use Rattle.ec_al.specs.Al as al
 use Rattle.ec_al.specs.Al.{Al}
 use Rattle.ec_al.specs.declared.state.State.{State}
+use Rattle.ec_al.specs.declared.state.State.TheVariants.{SafeOp, Op}
 use Rattle.ec_coe.specs.declared.message.Message.{Message}
 use Rattle.ec_coe.specs.Emergency.{emergency_bytes}
 use Rattle.ec_slave.specs.Roles.{role_of, is_reading, is_writing}
@@ -21,11 +22,11 @@ use Rattle.ec_slave.specs.Physical.{Window, physical_after, physical_met}
 use Rattle.ec_slave.specs.Logical.{meets_logically}
 use Rattle.ec_slave.specs.Meeting.{window_of, meets, meets_by, meets_physically, slave_met}
 use Rattle.ec_slave.specs.Application.{input_put, output_got, output_taken, with_manager, is_running}
-use Rattle.ec_slave.specs.Serving.{served, al_decided, has_outputs, outputs_awaited, request_decided, read_finished, message_served, reply_given, request_in, refusal_in, sent, reply_counter, emergency_put, greets_by, managers_decided, replies_decided, bytes_to, is_served, managers_entered, unlocked_empty, is_init, is_safeop, is_preop, with_al}
-use Rattle.ec_slave.specs.Faulting.{faulted, locked_empty}
+use Rattle.ec_slave.specs.Serving.{served, al_decided, awaited_by, awaited_if, has_outputs, outputs_awaited, request_decided, read_finished, message_served, reply_given, request_in, refusal_in, sent, reply_counter, emergency_put, greets_by, managers_decided, replies_decided, bytes_to, is_served, managers_entered, unlocked_empty, is_init, is_safeop, is_preop, with_al}
+use Rattle.ec_slave.specs.Faulting.{faulted, locked_empty, outputs_lost}
 use Rattle.ec_slave.specs.Interface.{AreWhole, ValuesStayWhole}
 use Rattle.ec_slave.proofs.FirmwareRuns.RestsQuietly.{decided-if, decides, rested}
-use Rattle.ec_slave.proofs.Always.MetIsSlave.{AreSound, empty-sound, no-manager-sound, all-met-sound, all-exchanged-sound}
+use Rattle.ec_slave.proofs.Always.MetIsSlave.{AreSound, awaiting-sound, empty-sound, no-manager-sound, all-met-sound, all-exchanged-sound}
 
 none_some : {X : Type 0} (x : X) → None ≡ Some x → ⊥
 none_some x e = cc
@@ -81,12 +82,16 @@ met-whole s d h = by-command d.command s d h
 
 -- ---- a fault
 
+lost-sound : (o : Option Bool) (m : SyncManager) → IsManager (awaited_if o (locked_empty m))
+lost-sound None m = empty-sound m.settings true
+lost-sound (Some b) m = awaiting-sound (locked_empty m) b (empty-sound m.settings true)
+
 fault-whole : (s : SlaveState) → AreWhole s → AreWhole (faulted s)
 unfolding faulted
 fault-whole s h = by (al.is_operational s.al.state)
   where
-    by : (b : Bool) → (let x : SlaveState = if b then record s { al = al.faulted s.al; managers = slice_set s.managers 2 (locked_empty (manager_at s.managers 2)) } else s in AreWhole x)
-    by true = set-sound s.managers 2 (locked_empty (manager_at s.managers 2)) h (empty-sound (manager_at s.managers 2).settings true)
+    by : (b : Bool) → (let x : SlaveState = if b then record s { al = al.faulted s.al; managers = slice_set s.managers 2 (outputs_lost s) } else s in AreWhole x)
+    by true = set-sound s.managers 2 (outputs_lost s) h (lost-sound (awaited_by s.kind.hardware (has_outputs s) Op SafeOp) (manager_at s.managers 2))
     by false = h
 
 -- ---- the application
@@ -211,7 +216,7 @@ awaited-sound None outputs old new ms h = h
 awaited-sound (Some x) outputs old new ms h = by (is_safeop new && not (is_safeop old))
   where
     by : (b : Bool) → (let xs : List SyncManager = if b then slice_set ms 2 (awaiting (manager_at ms 2) (x.has_firmware && outputs)) else ms in AreSound xs)
-    by true = set-sound ms 2 (awaiting (manager_at ms 2) (x.has_firmware && outputs)) h (let m = h 2 in record { published = m.published; draft = m.draft; view = m.view })
+    by true = set-sound ms 2 (awaiting (manager_at ms 2) (x.has_firmware && outputs)) h (awaiting-sound (manager_at ms 2) (x.has_firmware && outputs) (h 2))
     by false = h
 
 message_put-sound : (m : SyncManager) (bytes : List ℕ) → IsManager m → IsManager (message_put m bytes)

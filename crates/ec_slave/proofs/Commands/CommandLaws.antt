@@ -1,19 +1,22 @@
 -- What comes of a datagram by its command.
-use Rattle.std.proofs.Common.{ℕ, ◌+◌, ◌*◌, ◌%◌, ◌≡◌, ◌⊎◌, ◌&&◌, Bool, true, false, refl, sym, ◌∙◌, ap, inl, inr, arith, if◌then◌else◌}
+use Rattle.std.proofs.Common.{ℕ, ◌+◌, ◌*◌, ◌%◌, ◌≡◌, ◌⊎◌, ◌&&◌, Bool, true, false, Option, Some, None, refl, sym, ◌∙◌, ap, inl, inr, arith, if◌then◌else◌}
 use Rattle.std.specs.Int.{from_bool}
 use Rattle.ec_bits.proofs.AnyLaws.{if_true, if_false}
 use Rattle.ec_frame.specs.declared.command.Command.{Command}
 use Rattle.ec_frame.specs.declared.command.Command.TheVariants.{Nop, Aprd, Apwr, Aprw, Fprd, Fpwr, Fprw, Brd, Bwr, Brw, Lrd, Lwr, Lrw, Armw, Frmw}
 use Rattle.ec_frame.specs.Datagram.{Datagram, adp_of, ado_of}
 use Rattle.ec_slave.specs.Roles.{role_of, adp_after, is_reading, is_writing, is_joining}
-use Rattle.ec_slave.specs.State.{SlaveState, Met, station_of}
+use Rattle.ec_al.specs.declared.state.State.TheVariants.{SafeOp, Op}
+use Rattle.ec_sync.specs.SyncManager.{SyncManager}
+use Rattle.ec_slave.specs.State.{SlaveState, Met, manager_at, station_of}
 use Rattle.ec_slave.specs.Physical.{Window, byte_read, updated, some_byte_read, is_written, physical_after, physical_met}
 use Rattle.ec_slave.specs.Meeting.{window_of, meets, meets_by, meets_physically}
 use Rattle.ec_slave.specs.Keeping.{meets-keeps, past-keeps}
 use Rattle.ec_slave.specs.Logical.{meets_logically}
 use Rattle.ec_slave.specs.Application.{inputs_put, outputs_taken}
-use Rattle.ec_slave.specs.Faulting.{faulted}
-use Rattle.ec_slave.specs.Interface.{GoesOn, DatagramsGoOn, DatagramsStay, DatagramsStayPast, WritesMeet, ReadsMeet, LogicalCommandsMeet, FaultsAreInOp, ApplicationsGoByBytes}
+use Rattle.ec_slave.specs.Serving.{awaited_by, awaited_if, has_outputs}
+use Rattle.ec_slave.specs.Faulting.{faulted, locked_empty}
+use Rattle.ec_slave.specs.Interface.{GoesOn, DatagramsGoOn, DatagramsStay, DatagramsStayPast, WritesMeet, ReadsMeet, LogicalCommandsMeet, FaultsAreInOp, IsLost, ApplicationsGoByBytes}
 
 false-true : {X : Type 0} → false ≡ true → X
 false-true e = absurd (let x : false ≡ true = e in cc)
@@ -145,9 +148,13 @@ logical_meet s d = record {
 
 -- ---- a fault and the application
 
+lost-is : (o : Option Bool) (m : SyncManager) → IsLost m (awaited_if o (locked_empty m))
+lost-is None m = record { settings = refl; locked = refl; buffer = refl; mail = refl }
+lost-is (Some b) m = record { settings = refl; locked = refl; buffer = refl; mail = refl }
+
 pub faults : FaultsAreInOp
 unfolding faulted
-faults s = record { in_op = λ e. if_true _ _ _ e; elsewhere = λ e. if_false _ _ _ e }
+faults s = record { in_op = λ e. if_true _ _ _ e; lost = lost-is (awaited_by s.kind.hardware (has_outputs s) Op SafeOp) (manager_at s.managers 2); elsewhere = λ e. if_false _ _ _ e }
 
 pub by_bytes : ApplicationsGoByBytes
 unfolding inputs_put outputs_taken

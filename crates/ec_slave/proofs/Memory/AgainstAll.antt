@@ -9,7 +9,7 @@ use Rattle.ec_bits.proofs.BitLaws.{overlay_alike}
 use Rattle.ec_device.specs.declared.hardware.Hardware.{Hardware}
 use Rattle.ec_regs.specs.declared.fmmu.FmmuSettings.{FmmuSettings}
 use Rattle.ec_regs.specs.Managers.{is_set, is_mailbox, span}
-use Rattle.ec_sync.specs.SyncManager.{SyncManager, empty_manager, may_read, may_write, is_enabled, ring_read, ring_written}
+use Rattle.ec_sync.specs.SyncManager.{SyncManager, configured, may_read, may_write, is_enabled, ring_read, ring_written}
 use Rattle.ec_sync.specs.Governing.{governor, governs, covers}
 use Rattle.ec_fmmu.specs.Applied.{LogicalSpan, touched_by_reading, touched_by_writing}
 use Rattle.ec_slave.specs.Managers.{gets_at, is_read_by, is_ungoverned, is_written_by, manager_after}
@@ -143,7 +143,7 @@ logical_value-among lower m ms fs p bytes h =
 
 abbrev physical_by : Option Hardware → List SyncManager → Bool → Bool → Window → ℕ → SyncManager → SyncManager
 physical_by o all reads writes w n m =
-    if writes && is_configured o w n then empty_manager (settings_written o w n m) m.locked
+    if writes && is_configured o w n then configured m (settings_written o w n m)
     else manager_after reads writes (touches w) (touches w) (governs_among all n) (value_among all w n) m
 
 physical_from : (o : Option Hardware) (lower ms : List SyncManager) (reads writes : Bool) (w : Window)
@@ -152,7 +152,7 @@ unfolding physical_manager
 physical_from o lower [] reads writes w = refl
 physical_from o lower (m ∷ ms) reads writes w =
     let one : physical_manager o lower reads writes w (length lower) m ≡ physical_by o (lower ++ m ∷ ms) reads writes w (length lower) m
-    = ap (λ x. if writes && is_configured o w (length lower) then empty_manager (settings_written o w (length lower) m) m.locked else x)
+    = ap (λ x. if writes && is_configured o w (length lower) then configured m (settings_written o w (length lower) m) else x)
     (after_alike reads writes (touches w) (touches w) (is_ungoverned lower) (governs_among (lower ++ m ∷ ms) (length lower)) (physical_value lower w) (value_among (lower ++ m ∷ ms) w (length lower)) m (owned-among lower m ms) (physical_value-among lower m ms w)) in
     let next : length (lower ++ m ∷ []) ≡ length lower + 1 = length-append lower (m ∷ []) in
     let all : (lower ++ m ∷ []) ++ ms ≡ lower ++ m ∷ ms = append_assoc lower (m ∷ []) ms in

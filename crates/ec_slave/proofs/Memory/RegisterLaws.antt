@@ -9,7 +9,7 @@ use Rattle.ec_device.specs.declared.hardware.Hardware.{Hardware}
 use Rattle.ec_device.specs.Hardware.{manager_number}
 use Rattle.ec_regs.specs.Memory.{ram_start, ram_end, is_stored}
 use Rattle.ec_regs.specs.Managers.{is_set, settings_of}
-use Rattle.ec_sync.specs.SyncManager.{SyncManager, empty_manager, may_write}
+use Rattle.ec_sync.specs.SyncManager.{SyncManager, configured, may_write}
 use Rattle.ec_sync.specs.Governing.{governor}
 use Rattle.ec_al.specs.States.{state_number}
 use Rattle.ec_al.specs.declared.state.State.{State}
@@ -20,6 +20,7 @@ use Rattle.ec_slave.specs.Managers.{reads_under, writes_under, is_ungoverned, is
 use Rattle.ec_slave.specs.Physical.{Window, touches, byte_at, register_byte, may_read_byte, may_write_byte, is_missing, is_stored_at, setting_for, is_configured, settings_written, updated_from, physical_manager, physical_managers, physical_after}
 use Rattle.ec_slave.specs.Interface.{set_by, RegistersAreWritten, RegistersAreRead, ManagersAside, RegistersAreOpen, SlavesShowThemselves, UpdatedByIndex, RamIsGoverned, UpdatedWhole, ManagersAreAccessed, WholeValuesAreTheData, AccessesLeave}
 use Rattle.ec_slave.proofs.Memory.MissingFmmus.{missing-left}
+use Rattle.ec_slave.proofs.Memory.RegisterByte.{in_memory, register-read, stored-byte}
 use Rattle.ec_slave.proofs.Memory.WritesByByte.{writes_by_byte}
 use Rattle.ec_slave.proofs.Memory.BroadcastLaw.{set-start, registers-idle}
 use Rattle.ec_slave.proofs.Always.MetIsSlave.{length-physical_managers}
@@ -38,7 +39,7 @@ registers-uncovered w own m l = elim (cases_Bool (is_set m.settings)) [
 
 one-set : (o : Option Hardware) (lower : List SyncManager) (w : Window) (n : ℕ) (m : SyncManager) → w.from + length w.bytes ≤ ram_start → physical_manager o lower false true w n m ≡ set_by o w n m
 unfolding physical_manager
-one-set o lower w n m l = ap (λ (x : SyncManager). if is_configured o w n then empty_manager (settings_written o w n m) m.locked else x) (if_false _ _ _ (registers-uncovered w (is_ungoverned lower) m l))
+one-set o lower w n m l = ap (λ (x : SyncManager). if is_configured o w n then configured m (settings_written o w n m) else x) (if_false _ _ _ (registers-uncovered w (is_ungoverned lower) m l))
 
 set-at : (o : Option Hardware) (lower ms : List SyncManager) (w : Window) (n k : ℕ) → w.from + length w.bytes ≤ ram_start → k < length ms
     → manager_at (physical_managers o lower false true w n ms) k ≡ set_by o w (n + k) (manager_at ms k)
@@ -137,6 +138,10 @@ found-byte s (suc (suc zero)) l = refl
 found-byte s (suc (suc (suc zero))) l = refl
 found-byte s (suc (suc (suc (suc k)))) l = absurd (omega (arith, l))
 
+-- a register that datagrams store in the memory
+memory-read : (s : SlaveState) (a : ℕ) → 7 ≤ a → a < ram_start → in_memory a ≡ true → byte_at s a ≡ slice_index s.memory a
+memory-read s a low high m = register-read s a high ∙ stored-byte s a (within_above 4 3 a (omega (arith, low))) m
+
 pub shows_itself : SlavesShowThemselves
 unfolding byte_at register_byte sii_byte
 shows_itself s = record {
@@ -145,6 +150,10 @@ shows_itself s = record {
   sii_low = refl;
   sii_high = high (from_bool s.sii.busy) (from_bool s.sii.error);
   sii_found = found-byte s;
+  station = λ k l. memory-read s (0x0010 + k) (omega arith) (omega (arith, l)) (or_left _ _ (within_true 0x0010 2 (0x0010 + k) (omega arith) (omega (arith, l))));
+  mappings = λ n k l b.
+      let a : ℕ = 0x0600 + 16 * n + k in
+      memory-read s a (omega arith) (omega (arith, l, b)) (or_right _ _ (or_right _ _ (within_true 0x0600 64 a (omega arith) (omega (arith, l, b)))));
 }
   where
     high : (x y : ℕ) → (256 * x + 8192 * y + 32768 * x) / 256 ≡ x + 32 * y + 128 * x

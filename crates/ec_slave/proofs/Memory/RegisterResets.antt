@@ -10,7 +10,7 @@ use Rattle.ec_regs.specs.Memory.{takes_writes}
 use Rattle.ec_regs.specs.Names.{shown_manager}
 use Rattle.ec_dl.specs.DataLink.{dl_takes, new_data_link}
 use Rattle.ec_dl.proofs.StoredRegisters.{plain_hidden}
-use Rattle.ec_sync.specs.SyncManager.{empty_manager}
+use Rattle.ec_sync.specs.SyncManager.{configured}
 use Rattle.ec_sync.specs.Governing.{manager_byte}
 use Rattle.ec_slave.specs.State.{power_on}
 use Rattle.ec_slave.specs.Physical.{Window, as_shown, byte_from, is_missing, may_write_byte, setting_for, settings_written, some_byte_written, touches}
@@ -49,7 +49,7 @@ managers_cleared o bytes n m numbered long zeros l =
     (byte 0 (omega arith) refl) (byte 1 (omega arith) refl) (byte 2 (omega arith) refl) (byte 3 (omega arith) refl) (byte 4 (omega arith) refl) (byte 6 (omega arith) refl))
     ∙ ap (with_start no_settings) (zero-name o) in
     if_true _ _ _ (any_below_from 8 (λ k. is_some (setting_for o w n k)) 0 (omega arith) (ap is_some (own 0 (omega arith) refl)))
-    ∙ ap (λ (x : SyncManagerSettings). empty_manager x m.locked) settings
+    ∙ ap (configured m) settings
 
 pub sii_left : SiiConfigurationIsLeft
 sii_left s x hidden l =

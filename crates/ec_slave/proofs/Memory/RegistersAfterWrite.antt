@@ -13,7 +13,7 @@ use Rattle.ec_frame.specs.declared.command.Command.TheVariants.{Nop, Aprd, Apwr,
 use Rattle.ec_frame.specs.Datagram.{Datagram, adp_of}
 use Rattle.ec_al.specs.Al.{Al, requesting, status_word}
 use Rattle.ec_sii.specs.Port.{Sii, address_written, addressed, byte_for, command_address, commanded, sii_byte, written}
-use Rattle.ec_sync.specs.SyncManager.{SyncManager, empty_manager, may_read, may_write, ring_written, visible}
+use Rattle.ec_sync.specs.SyncManager.{SyncManager, configured, may_read, may_write, ring_written, visible}
 use Rattle.ec_slave.specs.Roles.{role_of, is_reading, is_writing}
 use Rattle.ec_slave.specs.State.{SlaveState, Met, fmmus, manager_at, station_of}
 use Rattle.ec_slave.specs.Sound.{IsSlave}
@@ -258,13 +258,13 @@ unaccessed reads writes w own value m l = elim (cases_Bool (is_set m.settings)) 
 
 managers-written : (s : SlaveState) (reads : Bool) (w : Window) (n : ℕ) → n < length s.managers → w.from + length w.bytes ≤ ram_start
     → manager_at (physical_after s reads true w).managers n
-    ≡ (if is_configured s.kind.hardware w n then empty_manager (settings_written s.kind.hardware w n (manager_at s.managers n)) (manager_at s.managers n).locked else manager_at s.managers n)
+    ≡ (if is_configured s.kind.hardware w n then configured (manager_at s.managers n) (settings_written s.kind.hardware w n (manager_at s.managers n)) else manager_at s.managers n)
 unfolding physical_after
 managers-written s reads w n i l =
     let m : SyncManager = manager_at s.managers n in
     ap (λ (ms : List SyncManager). manager_at ms n) (physical_against_all s.kind.hardware reads true w s.managers)
     ∙ (each-first _ s.managers n i
-    ∙ ap (λ (x : SyncManager). if is_configured s.kind.hardware w n then empty_manager (settings_written s.kind.hardware w n m) m.locked else x)
+    ∙ ap (λ (x : SyncManager). if is_configured s.kind.hardware w n then configured m (settings_written s.kind.hardware w n m) else x)
     (unaccessed reads true w (governs_among s.managers n) (value_among s.managers w n) m l))
 
 pub managers_after_write : ManagersAfterWrite

@@ -1,5 +1,5 @@
 -- A firmware step of a slave for which nothing waits changes nothing.
-use Rattle.ec_world.proofs.Words.{◌≡◌, ℕ, zero, suc, ◌<◌, ◌≤◌, ◌≢◌, ◌&&◌, Bool, true, false, Option, None, refl, sym, ◌∙◌, ap, subst, inl, inr, arith, List, [], ◌∷◌, length, get_or, set, is_some, option_and_then, nat_lt, length-set, get_or-set_same, get_or-set_other, ◌+◌, ◌==◌, not, Some, slice_set, if◌then◌else◌, option_map, unwrap_or, SlaveState, manager_at, power_on, served, IsQuiet, Holds, IsWorking, IsFaulted, IsReset, IsAs, SlaveRefines, HoldsData, cases_eq, cases_lt, and_left, and_parts, lt-ltb, le-ltb, both_ways, length-map, length-replicate, set-get_or, slice_get-get_or, slice_get_past, bytes_of_bits, zeros, if_true, if_false, emptied_buffer, Buffer, Got, app_written, app_read, drafted, draft_next, view_next, SyncManager, no_manager, empty_manager, buffer_length, Init, Identity, SlaveKind, Sii, switched_on, faults, SlavePlan, slave_at, AreListed, output_manager, Plain, PlainSlave, Health, Working, Faulted, Reset, plain_slave, no_plain_slave, is_working, failing, restarting, at_slave, is_reset, got_byte, WorldState, slave_of, no_slave, with_slave, Puts, Gets, faulted, Refines, none_some, some_same, listed, is_set, is_running, input_put, output_got, output_taken, with_manager, IsUsable, IsOfLength, MasterState, ReportState, CyclesRefine, ReportRefines}
+use Rattle.ec_world.proofs.Words.{◌≡◌, ℕ, zero, suc, ◌<◌, ◌≤◌, ◌≢◌, ◌&&◌, Bool, true, false, Option, None, refl, sym, ◌∙◌, ap, subst, inl, inr, arith, List, [], ◌∷◌, length, get_or, set, is_some, option_and_then, nat_lt, length-set, get_or-set_same, get_or-set_other, ◌+◌, ◌==◌, not, Some, slice_set, if◌then◌else◌, option_map, unwrap_or, SlaveState, manager_at, power_on, served, IsQuiet, Holds, IsWorking, IsFaulted, IsReset, IsAs, SlaveRefines, HoldsData, cases_eq, cases_lt, and_left, and_parts, lt-ltb, le-ltb, both_ways, length-map, length-replicate, set-get_or, slice_get-get_or, slice_get_past, bytes_of_bits, zeros, if_true, if_false, emptied_buffer, Buffer, Got, app_written, app_read, drafted, draft_next, view_next, SyncManager, no_manager, outputs_lost, buffer_length, Init, Identity, SlaveKind, Sii, switched_on, faults, SlavePlan, slave_at, AreListed, output_manager, Plain, PlainSlave, Health, Working, Faulted, Reset, plain_slave, no_plain_slave, is_working, failing, restarting, at_slave, is_reset, got_byte, WorldState, slave_of, no_slave, with_slave, Puts, Gets, faulted, Refines, none_some, some_same, listed, is_set, is_running, input_put, output_got, output_taken, with_manager, IsUsable, IsOfLength, MasterState, ReportState, CyclesRefine, ReportRefines}
 use Rattle.ec_slave.proofs.FirmwareRuns.RestsQuietly as serves
 use Rattle.ec_al.specs.Al as al
 use Rattle.ec_world.specs.Plain as plain
@@ -116,7 +116,7 @@ reset_shows w p t s l =
 
 -- as it leaves a slave in OP
 abbrev fallen : SlaveState → SlaveState
-fallen s = record s { al = al.faulted s.al; managers = set s.managers 2 (empty_manager (manager_at s.managers 2).settings true) }
+fallen s = record s { al = al.faulted s.al; managers = set s.managers 2 (outputs_lost s) }
 
 pub out_length : (p : SlavePlan) → AreListed p → buffer_length (output_manager p) ≡ bytes_of_bits p.share.outs
 out_length p a =
@@ -132,24 +132,25 @@ module _ (i : ℕ) (p : SlavePlan) (s : SlaveState) (q : PlainSlave) (fits : Are
 
   fault_is : IsWorking i p s q → IsFaulted i p (fallen s) (failing q)
   fault_is h =
-      let m = empty_manager (manager_at s.managers 2).settings true in
+      let m = outputs_lost s in
+      let lost = (faults s).lost in
       let b : 2 < length s.managers = let x = two_there h.holds in omega arith in
       let own : manager_at (set s.managers 2 m) 2 ≡ m = get_or-set_same s.managers 2 m no_manager b in
       let other : manager_at (set s.managers 2 m) 3 ≡ manager_at s.managers 3 = get_or-set_other s.managers 2 3 m no_manager (omega arith) in
       let operational : al.is_operational s.al.state ≡ true = ap al.is_operational h.state in
       let len : buffer_length (manager_at s.managers 2).settings ≡ length q.outputs.published = ap buffer_length (third_held i p s h.holds fits) ∙ (out_length p fits ∙ sym h.process.out_bytes.published) in
       record {
-        holds = still_holds i p s (al.faulted s.al) 2 m refl h.holds;
-        quiet = still_quiet s (al.faulted s.al) 2 m b (ap (λ (x : al.Al). x.requested) (if_true _ _ _ operational)) refl h.quiet;
+        holds = still_holds i p s (al.faulted s.al) 2 m lost.settings h.holds;
+        quiet = still_quiet s (al.faulted s.al) 2 m b (ap (λ (x : al.Al). x.requested) (if_true _ _ _ operational)) lost.mail h.quiet;
         process = record {
-          outputs = ap (λ (x : SyncManager). x.buffer) own ∙ ap emptied_buffer len;
+          outputs = ap (λ (x : SyncManager). x.buffer) own ∙ (lost.buffer ∙ ap emptied_buffer len);
           inputs = ap (λ (x : SyncManager). x.buffer) other ∙ h.process.inputs;
           out_bytes = record { published = length-replicate (length q.outputs.published) 0 ∙ h.process.out_bytes.published; draft = λ d e. absurd (none_some d e) };
           in_bytes = h.process.in_bytes;
         };
         state = ap (λ (x : al.Al). x.state) (if_true _ _ _ operational);
         error = ap (λ (x : al.Al). x.error) (if_true _ _ _ operational);
-        out_locked = ap (λ (x : SyncManager). x.locked) own;
+        out_locked = ap (λ (x : SyncManager). x.locked) own ∙ lost.locked;
         in_unlocked = ap (λ (x : SyncManager). x.locked) other ∙ h.in_unlocked;
       }
 

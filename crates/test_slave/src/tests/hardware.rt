@@ -89,6 +89,33 @@ writes 1100 2312
 serves
 shows 0130 > 08
 
+# New settings of the manager are no outputs.
+case outputs_set_anew
+writes 0810 0011020064000100
+asks 0800 > 040000000000
+serves
+shows 0130 > 04
+writes 1100 2312
+serves
+shows 0130 > 08
+
+# A fault locks the outputs. They are awaited then, though the error is acknowledged, and INIT alone opens them.
+case outputs_after_a_fault
+writes 1100 2312
+asks 0800 > 080000000000
+faults > 01
+asks 1800 > 140000000100
+vain 1100 2312
+serves
+shows 0130 > 14
+asks 1100 > 010000000000
+asks 0200 > 020000000000
+asks 0400 > 040000000000
+asks 0800 > 040000000000
+writes 1100 2312
+serves
+shows 0130 > 08
+
 # Requests for other states wait for nothing.
 case other_requests
 asks 0800 > 040000000000

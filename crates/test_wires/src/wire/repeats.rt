@@ -7,10 +7,10 @@ use ec_listed::Listed;
 use ec_scan::{Shown, ShownMailbox};
 use std::process::Abort;
 
-/// Sync managers: mailboxes at 0x1000 and 0x1080, outputs at 0x1100 and inputs at 0x1800.
+/// Sync managers: mailboxes at 0x1000 and 0x1080, outputs at 0x1100 and inputs at 0x1800, of no said length.
 const MANAGERS: [u16; 18] = [
-    41, 16, 0x1000, 128, 0x26, 0x0101, 0x1080, 128, 0x22, 0x0201, 0x1100, 8, 0x24, 0x0301, 0x1800,
-    8, 0x20, 0x0401,
+    41, 16, 0x1000, 128, 0x26, 0x0101, 0x1080, 128, 0x22, 0x0201, 0x1100, 0, 0x24, 0x0301, 0x1800,
+    0, 0x20, 0x0401,
 ];
 
 /// Output PDOs on manager 2: 0x1601 has the entry of 0x1600, 0x1602 has one twice, and 0x1603 has two gaps.
@@ -44,13 +44,12 @@ out_start = 0x1100
 in_start = 0x1800
 rxpdo = [
     { index = 0x1600, entries = [[0x7000, 1, 16]] },
-    { index = 0x1603, entries = [[0, 0, 4], [0, 0, 4], [0x7000, 2, 8]] },
 ]
 txpdo = [
     { index = 0x1A00, entries = [[0x7000, 1, 16]] },
 ]
 
-# its PDO 0x1601 is left out: an entry of it is exchanged already, and a table has each entry once in a direction
+# its PDO 0x1601 is left out, and those behind it where the assignment can't be written: an entry of it is exchanged already, and a table has each entry once in a direction
 [[slave]]
 name = \"type\"
 type = \"type\"
@@ -64,16 +63,6 @@ var = \"type_7000_1\"
 slave = \"type\"
 index = 0x7000
 sub = 1
-
-[[variable]]
-name = \"type_7000_2\"
-dir = \"out\"
-bits = 8
-[[link]]
-var = \"type_7000_2\"
-slave = \"type\"
-index = 0x7000
-sub = 2
 
 [[variable]]
 name = \"type_7000_1_2\"
@@ -104,7 +93,7 @@ rxpdo = [
     { index = 0x1601, entries = [[0x6040, 0, 16], [0x60FF, 0, 32]] },
 ]
 
-# its PDO 0x1601 is left out: an entry of it is exchanged already, and a table has each entry once in a direction
+# its PDO 0x1601 is left out, and those behind it where the assignment can't be written: an entry of it is exchanged already, and a table has each entry once in a direction
 [[slave]]
 name = \"type\"
 type = \"type\"
@@ -149,7 +138,7 @@ rxpdo = [
     { index = 0x1600, entries = [[0x6040, 0, 16], [0x607A, 0, 32]] },
 ]
 
-# its PDO 0x1601 is left out: an entry of it is exchanged already, and a table has each entry once in a direction
+# its PDO 0x1601 is left out, and those behind it where the assignment can't be written: an entry of it is exchanged already, and a table has each entry once in a direction
 [[slave]]
 name = \"type\"
 type = \"type\"
@@ -175,15 +164,15 @@ index = 0x607A
 sub = 0
 ";
 
-/// A type without a mailbox lists the PDOs that are left. By CoE it lists all, and the slave assigns those that are left, unless its
-/// assignment is fixed.
+/// A type without a mailbox lists the PDOs before the first that is left out. By CoE it lists all, and the slave assigns those that are left,
+/// unless its assignment is fixed.
 pub fn expect_left_out(rt: &(impl AllocGlobal + Abort)) {
     let plain = shown_with(
         rt,
         0,
         &[MANAGERS.as_slice(), OUTPUTS.as_slice(), INPUTS.as_slice()],
     );
-    expect_found(rt, plain, &[0x1600, 0x1603], 2, TABLE);
+    expect_found(rt, plain, &[0x1600], 1, TABLE);
     let mut written = shown_with(rt, 128, &[MANAGERS.as_slice(), WRITTEN.as_slice()]);
     written.outputs = Some(servo_pdos(rt));
     expect_found(rt, written, &[0x1600], 2, WRITTEN_TABLE);
@@ -261,8 +250,8 @@ fn expect_found(
     for one in found.as_slice() {
         assert_same(rt, &one.outputs.as_slice(), &assigned, "assigned");
         assert_same(rt, &one.kind.outputs().len(), &listed, "listed");
-        let unsaid = Some(Unsaid::Repeats(0x1601));
-        assert_same(rt, &one.unsaid, &unsaid, "unsaid");
+        let unsaid = [Unsaid::Repeats(0x1601)];
+        assert_same(rt, &one.unsaid.as_slice(), &unsaid.as_slice(), "unsaid");
     }
     let text = printed(rt.alloc(), shown.as_slice(), found.as_slice()).expect(rt, "a text");
     assert_same(rt, &text.as_str(), &table, "the table");

@@ -1,13 +1,13 @@
-use Rattle.std.proofs.Common.{subst}
+use Rattle.std.proofs.Common.{inl, inr, subst}
 use Rattle.ec_console.specs.Printing.{IsCutOff, IsPrinted}
 use Rattle.cmd_scan.proofs.Ending.{all_printed, cut_off, left_twice, none_printed}
 use Rattle.cmd_scan.proofs.command.run_scan.Goals as goal
 
 pub returns-in_err-seen-clause-runs : goal.returns-in_err-seen-clause-runs
-returns-in_err-seen-clause-runs g c = none_printed _ _ _ c.from_residual.ensures.1 c.in_err-seen.ensures.refused
+returns-in_err-seen-clause-runs g c = none_printed _ _ _ c.from_residual.ensures.1 (inl c.in_err-seen.ensures.refused)
 
 pub returns-in_err-text-clause-runs : goal.returns-in_err-text-clause-runs
-returns-in_err-text-clause-runs g c = none_printed _ _ _ c.from_residual-in_err-text.ensures.1 c.in_err-text.ensures.refused
+returns-in_err-text-clause-runs g c = none_printed _ _ _ c.from_residual-in_err-text.ensures.1 (inr c.in_err-text.ensures.refused)
 
 pub returns-in_err-print_text-clause-runs : goal.returns-in_err-print_text-clause-runs
 returns-in_err-print_text-clause-runs g c =

@@ -10,5 +10,5 @@ returns c =
     let few = c.loop.invariant.few in
     let l : length c.loop.rest.now < 4 = omega (arith, few) in
     sym (append-nil c.loop.found)
-    ∙ ap (λ (ps : List Pdo). c.loop.found ++ ps) (sym (pdos_end c.args.all c.loop.rest.now (no_pdos c.loop.rest.now l)))
+    ∙ ap (λ (ps : List Pdo). c.loop.found ++ ps) (sym (pdos_end c.args.all c.args.manager c.loop.rest.now (no_pdos c.loop.rest.now l)))
     ∙ c.loop.invariant.same

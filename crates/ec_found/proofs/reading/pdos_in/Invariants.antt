@@ -4,6 +4,6 @@ use Rattle.ec_found.proofs.reading.pdos_in.Given as goal
 
 abbrev pub invariant-loop : goal.invariant-loop
 invariant-loop l = record {
-  same : l.found ++ pdos_in l.all l.rest ≡ pdos_in l.all l.words;
+  same : l.found ++ pdos_in l.all l.manager l.rest ≡ pdos_in l.all l.manager l.words;
   few : length l.rest + l.counter ≤ length l.words;
 }

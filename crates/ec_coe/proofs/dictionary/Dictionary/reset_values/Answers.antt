@@ -1,4 +1,4 @@
-use Rattle.std.proofs.Common.{ℕ, ◌+◌, ◌<◌, ◌≡◌, ◌∙◌, List, length, set, subst, sym, ap, arith, length-set}
+use Rattle.std.proofs.Common.{ℕ, ◌+◌, ◌<◌, ◌∙◌, length, set, subst, sym, ap, arith, length-set}
 use Rattle.ec_coe.specs.declared.value.SdoValue.{SdoValue}
 use Rattle.ec_coe.specs.Objects.{Dictionary}
 use Rattle.ec_coe.proofs.Resetting.{Reset, reset-more, reset-all}

@@ -23,7 +23,7 @@ returns-clause-answered g c =
     subst (λ (x : LineState). IfOk c.hear.result (IsAnswered c.args.action.now x c.hear.new.self)) c.self.view_is
     (if_answered c.args.action.now s c.hear.new.self c.write_frame.new.frame.items new c.hear.result c.write_frame.ensures
     (subst (λ (p : List ℕ). Carries old new (p ∷ []) []) c.as_slice.ensures.value (c.send_on.ensures.done c.if-not-send_on.false))
-    c.hear.ensures.asked c.hear.ensures.heard)
+    c.hear.ensures.asked c.hear.ensures.number c.hear.ensures.heard)
 
 pub returns-clause-kept : goal.returns-clause-kept
 returns-clause-kept g c = kept_first _ _ _ _ _ _ (ap (λ (s : LineState). s.wire) c.self.view_is) (c.send_on.ensures.done c.if-not-send_on.false) c.hear.ensures.kept

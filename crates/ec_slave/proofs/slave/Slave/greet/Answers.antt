@@ -1,4 +1,4 @@
-use Rattle.std.proofs.Common.{ℕ, ◌<◌, ◌≡◌, ◌∙◌, Bool, true, false, List, length, arith, sym, ap}
+use Rattle.std.proofs.Common.{◌<◌, ◌≡◌, ◌∙◌, Bool, true, false, length, arith, sym, ap}
 use Rattle.ec_device.specs.Types.{SlaveKind}
 use Rattle.ec_al.specs.declared.state.State.{State}
 use Rattle.ec_coe.specs.Emergency.{emergency_bytes}

@@ -1,4 +1,4 @@
-use Rattle.std.proofs.Common.{ℕ, ◌<◌, ◌≡◌, ◌∙◌, Option, ap, arith}
+use Rattle.std.proofs.Common.{◌≡◌, ◌∙◌, Option, ap, arith}
 use Rattle.std.specs.Option.{option_copied}
 use Rattle.ec_device.specs.declared.hardware.Hardware.{Hardware}
 use Rattle.ec_device.specs.Types.{SlaveKind}

@@ -1,6 +1,5 @@
-use Rattle.std.proofs.Common.{rules, sym, ap, subst, List, Option, ◌∙◌}
+use Rattle.std.proofs.Common.{rules, sym, ap, subst, Option, ◌∙◌}
 use Rattle.ec_device.specs.declared.slave_type.Mailbox.{Mailbox}
-use Rattle.ec_device.specs.declared.parameter.Parameter.{Parameter}
 use Rattle.ec_device.specs.Hardware.{IsHardware}
 use Rattle.ec_device.specs.Parameters.{AreParameters}
 use Rattle.ec_device.specs.Types.{SlaveKind}
