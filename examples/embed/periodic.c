@@ -4,7 +4,8 @@
 
    WIRE is a UDP port such as 127.0.0.1:34980, or a network card such as eth1. The thread asks for SCHED_FIFO and for memory that
    isn't paged out; what is refused is said. A cycle ends at three quarters of its time at the latest: what hasn't come then is
-   missing. It switches the first variable of the table in each cycle. The program ends with status 1 if a cycle wasn't taken, and 4 if the slaves don't come up. */
+   missing. It switches the first variable of the table in each cycle. The program ends with status 1 if a cycle wasn't taken, and 4
+   if the slaves don't come up. */
 #include "wire.h"
 
 #include <pthread.h>

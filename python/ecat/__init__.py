@@ -7,8 +7,8 @@
             print(m["switches"])
 
 `Master` and `Segment` have the calls of ecat.h, which describes them. A wire is anything with `send` and `receive`: `ecat.wires` has
-those over UDP and network cards, and a `Segment` is one. The library is the file that ECAT_LIBRARY names, else the installed one. Its calls hold
-Python's lock, so threads may share a handle.
+those over UDP and network cards, and a `Segment` is one. The library is the file that ECAT_LIBRARY names, else the installed one.
+Its calls hold Python's lock, so threads may share a handle.
 """
 from __future__ import annotations
 

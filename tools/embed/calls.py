@@ -1,15 +1,18 @@
 #!/usr/bin/env python3
-"""Makes the calls of the package for Python that the examples leave out, over slaves in the same process.
+"""Makes the calls of the package for Python that the examples leave out, over slaves in the same process, and over UDP.
 
     calls.py TABLE
 
 TABLE is examples/small_machine.toml. It ends with status 1 if a call returns something else than it must.
 """
 import collections
+import socket
 import sys
+import threading
 import time
 
 import ecat
+from ecat.wires import UdpWire
 
 PANEL, PRESS = 0, 1
 # the place of a frame's second datagram, and commands there
@@ -83,6 +86,37 @@ def runs_as_real(table):
         must([v.name for v in m.variables() if v.is_signed] == ["force_wanted"], "and no other has")
 
 
+def serve(end, table):
+    """Serves slaves behind a socket, until an empty packet comes."""
+    with ecat.Segment(table) as slaves:
+        while (received := end.recvfrom(2048))[0]:
+            slaves.send(received[0])
+            end.sendto(slaves.receive(), received[1])
+
+
+def runs_over_udp(table):
+    """Slaves behind a socket come up, and a cycle is taken. Where nobody listens a start-up is lost, and no wait is cut short."""
+    end = socket.socket(socket.AF_INET, socket.SOCK_DGRAM)
+    end.bind(("127.0.0.1", 0))
+    port, slaves = end.getsockname()[1], threading.Thread(target=serve, args=(end, table), daemon=True)
+    slaves.start()
+    with ecat.Master(table) as m, UdpWire("127.0.0.1", port) as wire:
+        m.bring_up(wire)
+        must(m.cycle(wire).taken, "a cycle over UDP is taken")
+        wire.send(b"")
+    slaves.join()
+    end.close()
+    begun = time.monotonic()
+    with ecat.Master(table) as m, UdpWire("127.0.0.1", port, 0.1) as wire:
+        try:
+            m.bring_up(wire)
+        except ecat.Failed as failure:
+            must(failure.name == "Lost", "a start-up where nobody listens is lost")
+        else:
+            must(False, "nobody comes up where nobody listens")
+    must(time.monotonic() - begun >= 0.1, "a wait lasts as long as it is asked to")
+
+
 def refusals_have_names(opens):
     """What opens a table that is refused says the number, the name and the values of the refusal."""
     for text, wanted in (("[[", (11, "Toml", [])), ("b = 1", (12, "BadKey", [0, 0]))):
@@ -133,6 +167,7 @@ def main():
         state = m.read_state(slaves, PRESS)
         must(state.word == 0x14 and state.code != 0 and m.state(PANEL) == ecat.State(8, 0), "the press is in SAFEOP, with an error")
     runs_as_real(table)
+    runs_over_udp(table)
     print("the package's calls return what they must")
 
 
