@@ -1,8 +1,13 @@
 //! Commands that run a machine, in one order: its text, the machine, a capture, the run, the end of the capture, the explanation.
 ghost use Rattle.std.specs.Prelude.{◌≡◌, is_some, option_map};
+ghost use Rattle.std.specs.Net.Addr.{ipv4_octets};
+ghost use Rattle.cmd_loop.specs.Looping.{LoopsOnSockets};
+ghost use Rattle.cmd_segment.specs.Serving.{ServesMachine};
+ghost use Rattle.cmd_sim.specs.Simulating.{RunsLines, RunsLive};
 ghost use Rattle.ec_console.specs.Explaining.{IsLeft};
 ghost use Rattle.ec_console.specs.Given.{given_by};
 ghost use Rattle.ec_console.specs.Stating.{RunsBehind, RunsSource, RunsStated};
+ghost use Rattle.ec_wire.specs.Wires.{Traffic, nothing_sent};
 ghost use Rattle.ec_app.specs.Running.{IsSilent, LeavesApp, RunsWork, does_of, form_of, source_of};
 
 use crate::places::Place;
@@ -11,10 +16,12 @@ use cmd_master::{MasterOptions, run_connected};
 use cmd_segment::{Endpoint, run_plant, run_segment};
 use cmd_sim::{run_live, run_script};
 use ec_console::{
-    Capture, Console, Interfaces, Manner, Refusal, SlaveForm, Source, Stated, TextRead,
-    close_capture, lines_before, open_capture, read_behind, read_source, read_stated,
+    Capture, Console, InputStream, Interfaces, Manner, OutputStream, Refusal, SlaveForm, Source,
+    Stated, TextRead, close_capture, lines_before, open_capture, read_behind, read_source,
+    read_stated,
 };
 use ec_wire::{App, Loopback};
+use std::alloc::Global;
 use std::fs::Files;
 use std::io::{Read, Write};
 use std::net::Net;
@@ -220,22 +227,14 @@ fn run_on<H: AllocGlobal + Net + Files + Clock, R: Read + Drop, W: Write + Drop,
     ensures alone { LeavesApp work.entry app.old app.new }
     ensures explanation { console.new.explanation ≡ console.old.explanation }
 {
-    let Stated { machine, lines } = stated;
     match work {
         Work::Script(manner) => {
-            run_script(
-                rt.alloc(),
-                &machine,
-                manner,
-                &lines,
-                capture,
-                &mut console.output,
-            )
+            run_lines(rt.alloc(), stated, manner, capture, &mut console.output)
         }
         Work::Live(manner) => {
-            run_live(
+            run_coming(
                 rt.alloc(),
-                &machine,
+                stated,
                 manner,
                 capture,
                 &mut console.input,
@@ -243,20 +242,12 @@ fn run_on<H: AllocGlobal + Net + Files + Clock, R: Read + Drop, W: Write + Drop,
             )
         }
         Work::Cycles(cycles) => {
-            let mut loopback = Loopback::new(app);
-            run_loopback(
-                rt,
-                &machine,
-                cycles,
-                capture,
-                &mut console.output,
-                &mut loopback,
-            )
+            run_cycles(rt, stated, cycles, capture, &mut console.output, app)
         }
         Work::Segment(_, endpoint) => {
-            run_segment(
+            serve(
                 rt,
-                &machine,
+                stated,
                 endpoint,
                 capture,
                 &mut console.output,
@@ -265,12 +256,12 @@ fn run_on<H: AllocGlobal + Net + Files + Clock, R: Read + Drop, W: Write + Drop,
             )
         }
         Work::Plant(_, endpoint, manner) => {
-            run_plant(rt, &machine, endpoint, manner, capture, console)
+            run_plant(rt, &stated.machine, endpoint, manner, capture, console)
         }
         Work::Master(options) => {
             run_connected(
                 rt,
-                machine,
+                stated.machine,
                 options,
                 capture,
                 &mut console.input,
@@ -278,4 +269,73 @@ fn run_on<H: AllocGlobal + Net + Files + Clock, R: Read + Drop, W: Write + Drop,
             )
         }
     }
+}
+
+/// Runs the lines of a script.
+fn run_lines<F: Write + Drop, W: Write + Drop>(
+    alloc: Global,
+    stated: Stated,
+    manner: Manner,
+    capture: &mut Capture<F>,
+    output: &mut OutputStream<W>,
+) -> Result<(), Refusal>
+    ensures runs { RunsLines manner stated.machine stated.lines output.old output.new result }
+    ensures still_open { is_some capture.new ≡ is_some capture.old }
+{
+    run_script(
+        alloc,
+        &stated.machine,
+        manner,
+        &stated.lines,
+        capture,
+        output,
+    )
+}
+
+/// Runs the lines that the input gives as they come.
+fn run_coming<F: Write + Drop, R: Read + Drop, W: Write + Drop>(
+    alloc: Global,
+    stated: Stated,
+    manner: Manner,
+    capture: &mut Capture<F>,
+    input: &mut InputStream<R>,
+    output: &mut OutputStream<W>,
+) -> Result<(), Refusal>
+    ensures runs { RunsLive manner stated.machine (given_by R.remaining input.old input.new) output.old output.new result }
+    ensures still_open { is_some capture.new ≡ is_some capture.old }
+{
+    run_live(alloc, &stated.machine, manner, capture, input, output)
+}
+
+/// Runs cycles over sockets of this process, over which nothing was sent before.
+fn run_cycles<H: AllocGlobal + Net + Files + Clock, W: Write + Drop>(
+    rt: &H,
+    stated: Stated,
+    cycles: u16,
+    capture: &mut Capture<H::File>,
+    output: &mut OutputStream<W>,
+    app: &mut dyn App,
+) -> Result<(), Refusal>
+    ensures loops { (after : Traffic) × LoopsOnSockets cycles stated.machine output.old output.new nothing_sent after result }
+    ensures still_open { is_some capture.new ≡ is_some capture.old }
+{
+    let mut loopback = Loopback::new(app);
+    run_loopback(rt, &stated.machine, cycles, capture, output, &mut loopback)
+}
+
+/// Serves the slaves of a machine.
+fn serve<H: AllocGlobal + Net + Files + Clock, W: Write + Drop, F: Write + Drop>(
+    rt: &H,
+    stated: Stated,
+    endpoint: Endpoint,
+    capture: &mut Capture<H::File>,
+    output: &mut OutputStream<W>,
+    faults: &mut OutputStream<F>,
+    app: &mut dyn App,
+) -> Result<(), Refusal>
+    ensures serves { ServesMachine endpoint.descriptor (ipv4_octets endpoint.address) endpoint.port endpoint.frames stated.machine
+        output.old output.new faults.old faults.new result }
+    ensures still_open { is_some capture.new ≡ is_some capture.old }
+{
+    run_segment(rt, &stated.machine, endpoint, capture, output, faults, app)
 }

@@ -83,6 +83,13 @@ pub open_state : MasterState → OpenCycle → MasterState
 open_state m c = record m { cycle = Some c }
 
 -- a payload that answers no part of the cycle
+pub not_taken : (m : MasterState) (payload : List ℕ) → ((c : OpenCycle) (k : ℕ) (p : Payload) → IsAnswer m c payload k p → ⊥) → IsTaken m payload false m
+not_taken m payload none = record {
+  kept = λ c k p a. absurd (none c k p a);
+  foreign = λ f. (refl, refl);
+  only = λ e. absurd cc;
+}
+
 pub foreign : (m : MasterState) (c : OpenCycle) (payload : List ℕ) (p : Payload) → m.cycle ≡ Some c → IsFrame payload p → IsUnderWay m.plan c.number c.frames c.kept → length c.frames ≡ length m.plan.parts → length m.plan.parts ≤ 32
     → Answered p.datagrams c.frames c.kept None → IsTaken m payload false m
 foreign m c payload p is spelled way count few none = record {

@@ -1,15 +1,18 @@
 -- Copies run after run, and where the runs lie.
-use Rattle.std.proofs.Common.{ℕ, zero, suc, ◌+◌, ◌*◌, ◌^◌, ◌<◌, ◌≤◌, ◌≡◌, ◌==◌, ◌&&◌, nat_lt, Bool, true, false, Option, Some, None, refl, sym, ◌∙◌, ap, subst, inl, inr, arith, List, [], ◌∷◌, length, map, filter, get_or, take, drop, ◌++◌, append-nil, if◌then◌else◌}
+use Rattle.std.proofs.Common.{ℕ, zero, suc, ◌+◌, ◌-◌, ◌*◌, ◌^◌, ◌<◌, ◌≤◌, ◌≡◌, ◌==◌, ◌&&◌, nat_lt, Bool, true, false, Option, Some, None, refl, sym, ◌∙◌, ap, subst, inl, inr, arith, List, [], ◌∷◌, length, map, filter, get_or, take, drop, slice_get, ◌++◌, append-nil, if◌then◌else◌}
 use Rattle.std.specs.List.{AllByRecursion}
 use Rattle.std.proofs.lemmas.Bool.{cases_lt, eq-eqb, eqb-true, and_parts}
 use Rattle.std.proofs.lemmas.List.{drop_more, drop_all, length-replicate, take_more, take_all, map-append, get_or_past}
 use Rattle.std.proofs.lemmas.List.Elements.{filter-append}
+use Rattle.std.proofs.lemmas.Option.{get_or_from_slice_get}
 use Rattle.ec_bits.specs.Bits.{zeros, copied, bytes_of_bits}
 use Rattle.ec_bits.proofs.AnyLaws.{if_true}
 use Rattle.ec_bits.proofs.Copies.{copied_more}
 use Rattle.ec_link.specs.declared.plan.Link.{Link}
 use Rattle.ec_link.specs.Plan.{PlanState, part_at}
-use Rattle.ec_link.specs.Meaning.{slave_at, area_at}
+use Rattle.ec_link.specs.declared.plan.PartPlan.{PartPlan}
+use Rattle.ec_link.specs.declared.settings.SlavePlan.{SlavePlan}
+use Rattle.ec_link.specs.Meaning.{no_slave, slave_at, area_at}
 use Rattle.ec_link.specs.Usable.{IsUsable, IsOutLink, IsInLink}
 use Rattle.ec_cycle.specs.declared.run.BitRun.{BitRun}
 use Rattle.ec_cycle.specs.declared.run.InputRun.{InputRun}
@@ -291,16 +294,16 @@ merged_fit_inputs : (p : PlanState) (kept : List (Option ReturnedPart)) (bytes :
 merged_fit_inputs p kept bytes [] all = tt
 merged_fit_inputs p kept bytes (r ∷ rs) all = merged_fit_inputs_from p kept bytes r rs all.0 all.1
 
-input_at : (P : InputRun → Type 0) (rs : List InputRun) (i : ℕ) (r : InputRun) → AllByRecursion P rs → i < length rs → r ≡ get_or rs i r → P r
-input_at P [] i r all l at = absurd (omega arith)
-input_at P (x ∷ rs) zero r all l at = subst P (sym at) all.0
-input_at P (x ∷ rs) (suc i) r all l at = input_at P rs i r all.1 (omega arith) at
+pub item_at : {X : Type 0} (P : X → Type 0) (rs : List X) (i : ℕ) (r : X) → AllByRecursion P rs → i < length rs → r ≡ get_or rs i r → P r
+item_at P [] i r all l at = absurd (omega arith)
+item_at P (x ∷ rs) zero r all l at = subst P (sym at) all.0
+item_at P (x ∷ rs) (suc i) r all l at = item_at P rs i r all.1 (omega arith) at
 
 pub input_fits : (p : PlanState) (kept : List (Option ReturnedPart)) (runs : List InputRun) (i : ℕ) (r : InputRun) (inputs : List ℕ) → IsUsable p → runs ≡ input_runs p → i < length runs → r ≡ get_or runs i r
     → length kept ≡ length p.parts → ((k : ℕ) (q : ReturnedPart) → get_or kept k None ≡ Some q → length q.bytes ≡ (part_at p.parts k).bytes) → length inputs ≡ bytes_of_bits p.in_bits → p.in_bits < 2 ^ 64
     → FitsInput p kept (length inputs) r
 input_fits p kept runs i r inputs usable is l at count sizes room few =
-    input_at (FitsInput p kept (length inputs)) runs i r
+    item_at (FitsInput p kept (length inputs)) runs i r
     (subst (AllByRecursion (FitsInput p kept (length inputs))) (sym is) (merged_fit_inputs p kept (length inputs) (map (input_run p) p.in_links) (links_fit_inputs p.in_links usable.in_links))) l at
   where
     fits : (x : Link) → IsInLink p x → FitsInput p kept (length inputs) (input_run p x)
@@ -320,3 +323,51 @@ input_fits p kept runs i r inputs usable is l at count sizes room few =
     links_fit_inputs : (ls : List Link) → AllByRecursion (IsInLink p) ls → AllByRecursion (FitsInput p kept (length inputs)) (map (input_run p) ls)
     links_fit_inputs [] all = tt
     links_fit_inputs (x ∷ ls) all = (fits x all.0, links_fit_inputs ls all.1)
+
+-- ---- the run of a link
+
+-- its bits begin inside its part, and its numbers fit a `usize`
+pub output_placed : (p : PlanState) (k : ℕ) (l : Link) (x : SlavePlan) → IsUsable p → IsOutLink p l → is_of_part p k l ≡ true → slice_get p.slaves l.slave ≡ Some x
+    → (8 * (part_at p.parts k).address ≤ x.from + l.object_bit) × (x.from + l.object_bit < 2 ^ 64)
+output_placed p k l x usable inside own there =
+    let is : slave_at p l.slave ≡ x = get_or_from_slice_get p.slaves l.slave x no_slave there in
+    let part : part_of_slave p l.slave ≡ k = eqb-true (part_of_slave p l.slave) k own in
+    let span = area_inside p l.slave usable inside.slave in
+    let from = span.out_from in
+    let to = span.out_to in
+    let bits = inside.bits in
+    let low = usable.addresses (part_of_slave p l.slave) in
+    let first : 8 * (part_at p.parts (part_of_slave p l.slave)).address ≤ (slave_at p l.slave).from + l.object_bit = omega arith in
+    let small : (slave_at p l.slave).from + l.object_bit < 2 ^ 64 = omega arith in
+    subst (λ (y : SlavePlan). (8 * (part_at p.parts k).address ≤ y.from + l.object_bit) × (y.from + l.object_bit < 2 ^ 64)) is
+    (subst (λ (n : ℕ). 8 * (part_at p.parts n).address ≤ (slave_at p l.slave).from + l.object_bit) part first, small)
+
+abbrev run_to : Link → ℕ → BitRun
+run_to l to = record { to = to; from = l.image; count = l.count }
+
+pub output_is : (p : PlanState) (k : ℕ) (l : Link) (x : SlavePlan) (a : ℕ) → slice_get p.slaves l.slave ≡ Some x → a ≡ (part_at p.parts k).address → run_to l (x.from + l.object_bit - 8 * a) ≡ output_run p k l
+output_is p k l x a there at =
+    let is : slave_at p l.slave ≡ x = get_or_from_slice_get p.slaves l.slave x no_slave there in
+    ap (λ (y : SlavePlan). run_to l (y.from + l.object_bit - 8 * a)) (sym is) ∙ ap (λ (b : ℕ). run_to l ((slave_at p l.slave).from + l.object_bit - 8 * b)) at
+
+pub input_placed : (p : PlanState) (l : Link) (x : SlavePlan) → IsUsable p → IsInLink p l → slice_get p.slaves l.slave ≡ Some x
+    → (x.share.part < length p.parts) × (8 * (part_at p.parts x.share.part).address ≤ x.from + l.object_bit) × (x.from + l.object_bit < 2 ^ 64)
+input_placed p l x usable inside there =
+    let is : slave_at p l.slave ≡ x = get_or_from_slice_get p.slaves l.slave x no_slave there in
+    let part : (slave_at p l.slave).share.part < length p.parts = usable.in_parts l.slave inside.slave in
+    let span = area_inside p l.slave usable inside.slave in
+    let from = span.in_from in
+    let to = span.in_to in
+    let bits = inside.bits in
+    let low = usable.addresses (part_of_slave p l.slave) in
+    let first : 8 * (part_at p.parts (part_of_slave p l.slave)).address ≤ (slave_at p l.slave).from + l.object_bit = omega arith in
+    let small : (slave_at p l.slave).from + l.object_bit < 2 ^ 64 = omega arith in
+    subst (λ (y : SlavePlan). (y.share.part < length p.parts) × (8 * (part_at p.parts y.share.part).address ≤ y.from + l.object_bit) × (y.from + l.object_bit < 2 ^ 64)) is (part, first, small)
+
+abbrev input_from : Link → SlavePlan → PartPlan → InputRun
+input_from l x q = record { part = x.share.part; unit = q.unit; run = record { to = l.image; from = x.from + l.object_bit - 8 * q.address; count = l.count } }
+
+pub input_is : (p : PlanState) (l : Link) (x : SlavePlan) (q : PartPlan) → slice_get p.slaves l.slave ≡ Some x → q ≡ part_at p.parts x.share.part → input_from l x q ≡ input_run p l
+input_is p l x q there at =
+    let is : slave_at p l.slave ≡ x = get_or_from_slice_get p.slaves l.slave x no_slave there in
+    ap (input_from l x) at ∙ ap (λ (y : SlavePlan). input_from l y (part_at p.parts y.share.part)) (sym is)

@@ -4,6 +4,7 @@ use Rattle.std.specs.Int.{bit_at}
 use Rattle.std.specs.List.{AllByRecursion}
 use Rattle.std.proofs.lemmas.Bool.{cases_Bool, cases_lt, and_parts, ltb-true}
 use Rattle.std.proofs.lemmas.List.{get_or_past}
+use Rattle.std.proofs.lemmas.Option.{slice_get_cases}
 use Rattle.std.proofs.Math.Nat.{mod-eq_of_lt}
 use Rattle.ec_bits.specs.Bits.{bit, overlay, within, with_number, bits_number, bytes_of_bits}
 use Rattle.ec_bits.proofs.BitLaws.{bit-overlay, length-overlay}
@@ -89,3 +90,11 @@ set_keeps_others m variable other value apart ne holds = go (slice_get m.plan.va
     go None q ex ey h = absurd (let z : false ≡ true = h in cc)
     go (Some x) None ex ey h = refl
     go (Some x) (Some y) ex ey h = kept x y ex ey (holds_parts value x h).0 y.direction refl
+
+-- ---- a variable that holds a value is there
+
+pub holds_there : (vs : List Variable) (n value : ℕ) → holds_value value (slice_get vs n) ≡ true → n < length vs
+holds_there vs n value h = elim (slice_get_cases vs n).1 [
+  | inl a ↦ a.1
+  | inr b ↦ absurd (let f : false ≡ true = sym (ap (holds_value value) b.1) ∙ h in cc)
+]

@@ -1,4 +1,5 @@
 //! Why a value doesn't fit what its key takes.
+use crate::reading::items_of;
 use crate::rule::{DIRECTIONS, Lacking, TRUTHS, is_key, word_of};
 use ec_device::{MAX_ENTRIES, MAX_NAME, MAX_PARAMETERS, MAX_PDOS};
 use ec_diagnostic::{Diagnosis, MarkedPart, PathStep, Printable, printed};
@@ -62,6 +63,40 @@ pub struct Mark<'s> {
     part: MarkedPart,
 }
 
+/// What the items of a list are.
+#[derive(Clone, Copy)]
+enum Items {
+    /// Indices of PDOs, from the first to the second.
+    Indices(u16, u16),
+    /// PDOs with such indices.
+    Pdos(u16, u16),
+    /// Downloads.
+    Parameters,
+}
+
+impl Items {
+    /// The list in words.
+    fn name(self) -> &'static str {
+        match self {
+            Items::Indices(..) => "a list of PDO indices",
+            Items::Pdos(..) => "a list of PDOs",
+            Items::Parameters => "a list of downloads",
+        }
+    }
+}
+
+/// A value that doesn't fit, by its place.
+#[derive(Clone, Copy)]
+pub struct Wrong<'s> {
+    /// Where it stands.
+    pub mark: Mark<'s>,
+    /// Why it doesn't fit.
+    pub misfit: Misfit<'s>,
+}
+
+/// That a value fits, or what in it doesn't.
+type Held<'s> = Result<(), Wrong<'s>>;
+
 impl<'s> Mark<'s> {
     /// Where an element begins.
     pub fn of(position: Position) -> Mark<'s> {
@@ -92,152 +127,237 @@ impl<'s> Mark<'s> {
         mark
     }
 
+    /// The same part of what stands under a key there.
+    fn key(self, key: &'s str) -> Mark<'s> {
+        let mut mark = self;
+        mark.enter(PathStep::Key(key));
+        mark
+    }
+
     /// Adds a remark there.
     pub fn say<D: fmt::Display + Drop>(&self, diagnosis: &mut Diagnosis<'_>, words: D) {
         let count = self.count.min(STEPS);
         diagnosis.at(&self.steps[..count], self.part, words);
     }
 
-    /// Checks the value there against a rule. If it doesn't fit, the mark is left at what is wrong.
-    pub fn hold(&mut self, value: &'s Value, rule: Rule) -> Result<(), Misfit<'s>> {
+    /// Checks the value there against a rule.
+    pub fn hold(self, value: &'s Value, rule: Rule) -> Held<'s> {
         match rule {
-            Rule::Name => hold_name(value),
-            Rule::Number(low, high) => hold_number(value, low, high),
+            Rule::Name => self.hold_name(value),
+            Rule::Number(low, high) => self.hold_number(value, low, high),
             Rule::Mailbox => self.hold_numbers(value, &MAILBOX),
             Rule::Manager => self.hold_numbers(value, &MANAGER),
             Rule::Parameters => self.hold_parameters(value),
-            Rule::Indices(first, last) => self.hold_indices(value, first, last),
+            Rule::Indices(first, last) => self.hold_items(value, Items::Indices(first, last)),
             Rule::Pdos(first, last) => self.hold_pdos(value, first, last),
-            Rule::Index => hold_index(value, 0, u16::MAX),
+            Rule::Index => self.hold_index(value, 0, u16::MAX),
             Rule::Entries => self.hold_entries(value),
             Rule::LinkBits => self.hold_numbers(value, &LINK_BITS),
-            Rule::Direction => hold_direction(value),
-            Rule::Truth => {
-                wanted(value, value.as_bool(), TRUTHS)?;
-                Ok(())
+            Rule::Direction => self.hold_direction(value),
+            Rule::Truth if value.is_bool() => Ok(()),
+            Rule::Truth => self.other(value, TRUTHS),
+            Rule::Tables if value.is_array() => Ok(()),
+            Rule::Tables => self.other(value, "a list of tables"),
+        }
+    }
+
+    /// That the value there doesn't fit.
+    fn wrong(self, misfit: Misfit<'s>) -> Held<'s> {
+        Err(Wrong { mark: self, misfit })
+    }
+
+    /// That the value there stands in place of what is wanted.
+    fn other(self, value: &Value, wanted: &'static str) -> Held<'s> {
+        self.wrong(Misfit::Other(kind_of(value), wanted))
+    }
+
+    fn hold_name(self, value: &'s Value) -> Held<'s> {
+        let Some(name) = value.as_str() else {
+            return self.other(value, "a name in quotes");
+        };
+        match misfit_of_name(name) {
+            Some(misfit) => self.wrong(misfit),
+            None => Ok(()),
+        }
+    }
+
+    fn hold_number(self, value: &'s Value, low: u32, high: u32) -> Held<'s> {
+        match value.as_integer() {
+            None => self.other(value, "a whole number"),
+            Some(number) if number < i64::from(low) || i64::from(high) < number => {
+                self.wrong(Misfit::Outside(number, low, high))
             }
-            Rule::Tables => {
-                listed(value, "a list of tables")?;
-                Ok(())
-            }
+            Some(_) => Ok(()),
         }
     }
 
     /// Checks a list of as many numbers as there are ranges.
-    fn hold_numbers(&mut self, value: &'s Value, ranges: &[(u32, u32)]) -> Result<(), Misfit<'s>> {
-        let items = listed(value, "a list of numbers")?;
+    fn hold_numbers(self, value: &'s Value, ranges: &[(u32, u32)]) -> Held<'s> {
+        let Some(items) = value.as_array() else {
+            return self.other(value, "a list of numbers");
+        };
         if items.len() != ranges.len() {
-            return Err(Misfit::Length(items.len(), ranges.len()));
+            return self.wrong(Misfit::Length(items.len(), ranges.len()));
         }
         for (place, (item, (low, high))) in items.iter().zip(ranges).enumerate() {
-            self.enter(PathStep::Item(place));
-            hold_number(item, *low, *high)?;
-            self.leave();
+            self.item(place).hold_number(item, *low, *high)?;
         }
         Ok(())
     }
 
-    fn hold_indices(&mut self, value: &'s Value, first: u16, last: u16) -> Result<(), Misfit<'s>> {
-        let indices = listed(value, "a list of PDO indices")?;
-        for (place, index) in indices.iter().enumerate() {
-            self.enter(PathStep::Item(place));
-            hold_index(index, first, last)?;
-            self.leave();
+    /// Checks the items of a list.
+    fn hold_items(self, value: &'s Value, items: Items) -> Held<'s> {
+        let Some(list) = value.as_array() else {
+            return self.other(value, items.name());
+        };
+        for (place, item) in list.iter().enumerate() {
+            self.item(place).hold_item(item, items)?;
         }
         Ok(())
     }
 
-    fn hold_pdos(&mut self, value: &'s Value, first: u16, last: u16) -> Result<(), Misfit<'s>> {
-        let pdos = listed(value, "a list of PDOs")?;
-        for (place, pdo) in pdos.iter().enumerate() {
-            self.enter(PathStep::Item(place));
-            self.hold_pdo(pdo, first, last)?;
-            self.leave();
+    fn hold_item(self, value: &'s Value, items: Items) -> Held<'s> {
+        match items {
+            Items::Indices(first, last) => self.hold_index(value, first, last),
+            Items::Pdos(first, last) => self.hold_pdo(value, first, last),
+            Items::Parameters => self.hold_parameter(value),
         }
-        hold_count(pdos.len(), MAX_PDOS, "PDOs")
     }
 
-    fn hold_pdo(&mut self, value: &'s Value, first: u16, last: u16) -> Result<(), Misfit<'s>> {
-        let pdo = "a PDO, `{ index = .., entries = [..] }`,";
-        let members = wanted(value, value.as_table(), pdo)?;
+    /// Checks the index of a PDO.
+    fn hold_index(self, value: &'s Value, first: u16, last: u16) -> Held<'s> {
+        match value.as_integer() {
+            None => self.other(value, "the index of a PDO"),
+            Some(number) if number < i64::from(first) || i64::from(last) < number => {
+                self.wrong(Misfit::OutsideIndices(number, first, last))
+            }
+            Some(_) => Ok(()),
+        }
+    }
+
+    fn hold_pdos(self, value: &'s Value, first: u16, last: u16) -> Held<'s> {
+        self.hold_items(value, Items::Pdos(first, last))?;
+        self.hold_count(items_of(Some(value)).len(), MAX_PDOS, "PDOs")
+    }
+
+    fn hold_pdo(self, value: &'s Value, first: u16, last: u16) -> Held<'s> {
+        let Some(members) = value.as_table() else {
+            return self.other(value, "a PDO, `{ index = .., entries = [..] }`,");
+        };
         self.hold_pdo_keys(members)?;
         for (key, rule, _) in Shape::Pdo.keys(Format::full()) {
             if let Some(value) = members.get(*key) {
-                self.enter(PathStep::Key(*key));
-                match *rule {
-                    Rule::Entries => self.hold_entries(value)?,
-                    _ => hold_index(value, first, last)?,
-                }
-                self.leave();
+                self.key(*key).hold_member(value, *rule, first, last)?;
             }
         }
         Ok(())
     }
 
+    /// Checks what stands under a key of a PDO.
+    fn hold_member(self, value: &'s Value, rule: Rule, first: u16, last: u16) -> Held<'s> {
+        match rule {
+            Rule::Entries => self.hold_entries(value),
+            _ => self.hold_index(value, first, last),
+        }
+    }
+
     /// Checks the keys of a PDO.
-    fn hold_pdo_keys(&mut self, members: &'s Table) -> Result<(), Misfit<'s>> {
+    fn hold_pdo_keys(self, members: &'s Table) -> Held<'s> {
         let keys = Shape::Pdo.keys(Format::full());
         for key in members.keys() {
             if !is_key(key.as_str(), keys) {
-                self.enter(PathStep::Key(key.as_str()));
-                self.part = MarkedPart::Key;
-                return Err(Misfit::NoKey(key.as_str()));
+                return self.no_key(key.as_str());
             }
         }
         let lacks = Lacking { members, keys };
         if lacks.count() > 0 {
-            return Err(Misfit::Lacks(lacks));
+            return self.wrong(Misfit::Lacks(lacks));
         }
         Ok(())
     }
 
-    fn hold_entries(&mut self, value: &'s Value) -> Result<(), Misfit<'s>> {
-        let entries = listed(value, "a list of entries")?;
-        for (place, entry) in entries.iter().enumerate() {
-            self.enter(PathStep::Item(place));
-            self.hold_entry(entry)?;
-            self.leave();
-        }
-        hold_count(entries.len(), MAX_ENTRIES, "entries")
-    }
-
-    fn hold_entry(&mut self, value: &'s Value) -> Result<(), Misfit<'s>> {
-        self.hold_numbers(value, &ENTRY)?;
-        match listed(value, "an entry")? {
-            [index, subindex, ..]
-                if index.as_integer() == Some(0) && subindex.as_integer() != Some(0) => {
-                Err(Misfit::NamedGap)
-            }
-            _ => Ok(()),
-        }
-    }
-
-    fn hold_parameters(&mut self, value: &'s Value) -> Result<(), Misfit<'s>> {
-        let parameters = listed(value, "a list of downloads")?;
-        for (place, parameter) in parameters.iter().enumerate() {
-            self.enter(PathStep::Item(place));
-            self.hold_parameter(parameter)?;
-            self.leave();
-        }
-        hold_count(parameters.len(), MAX_PARAMETERS, "downloads")
-    }
-
-    fn hold_parameter(&mut self, value: &'s Value) -> Result<(), Misfit<'s>> {
-        let items = listed(value, "a list of numbers")?;
-        let [_, _, bits, number] = items else {
-            return Err(Misfit::Length(items.len(), PARAMETER_ITEMS));
+    /// That a PDO has no such key.
+    fn no_key(self, key: &'s str) -> Held<'s> {
+        let mark = Mark {
+            part: MarkedPart::Key,
+            ..self.key(key)
         };
-        for (place, (item, (low, high))) in items.iter().zip(&PARAMETER[..2]).enumerate() {
-            self.enter(PathStep::Item(place));
-            hold_number(item, *low, *high)?;
-            self.leave();
+        mark.wrong(Misfit::NoKey(key))
+    }
+
+    fn hold_entries(self, value: &'s Value) -> Held<'s> {
+        let Some(entries) = value.as_array() else {
+            return self.other(value, "a list of entries");
+        };
+        for (place, entry) in entries.iter().enumerate() {
+            self.item(place).hold_entry(entry)?;
         }
-        self.enter(PathStep::Item(2));
-        let (least, most) = range_of(bits)?;
-        self.leave();
-        self.enter(PathStep::Item(3));
-        hold_held(number, least, most)?;
-        self.leave();
+        self.hold_count(entries.len(), MAX_ENTRIES, "entries")
+    }
+
+    fn hold_entry(self, value: &'s Value) -> Held<'s> {
+        self.hold_numbers(value, &ENTRY)?;
+        if is_named_gap(value) {
+            return self.wrong(Misfit::NamedGap);
+        }
+        Ok(())
+    }
+
+    fn hold_parameters(self, value: &'s Value) -> Held<'s> {
+        self.hold_items(value, Items::Parameters)?;
+        self.hold_count(items_of(Some(value)).len(), MAX_PARAMETERS, "downloads")
+    }
+
+    fn hold_parameter(self, value: &'s Value) -> Held<'s> {
+        let Some(items) = value.as_array() else {
+            return self.other(value, "a list of numbers");
+        };
+        match items.as_slice() {
+            [index, subindex, bits, number] => {
+                let ((first, last), (least, most)) = (PARAMETER[0], PARAMETER[1]);
+                self.item(0).hold_number(index, first, last)?;
+                self.item(1).hold_number(subindex, least, most)?;
+                self.hold_sized(bits, number)
+            }
+            items => self.wrong(Misfit::Length(items.len(), PARAMETER_ITEMS)),
+        }
+    }
+
+    /// Checks the bits of a download and its value.
+    fn hold_sized(self, bits: &'s Value, number: &'s Value) -> Held<'s> {
+        let Some(count) = bits.as_integer() else {
+            return self.item(2).other(bits, "a number of bits");
+        };
+        match range_of(count) {
+            None => self.item(2).wrong(Misfit::OddBits(count)),
+            Some((least, most)) => self.item(3).hold_held(number, least, most),
+        }
+    }
+
+    /// Checks the value of a download.
+    fn hold_held(self, value: &'s Value, least: i64, most: i64) -> Held<'s> {
+        match value.as_integer() {
+            None => self.other(value, "a whole number"),
+            Some(number) if number < least || most < number => {
+                self.wrong(Misfit::NotHeld(number, least, most))
+            }
+            Some(_) => Ok(()),
+        }
+    }
+
+    fn hold_direction(self, value: &'s Value) -> Held<'s> {
+        match value.as_str() {
+            None => self.other(value, DIRECTIONS),
+            Some("out" | "in") => Ok(()),
+            Some(_) => self.wrong(Misfit::NoDirection),
+        }
+    }
+
+    /// Checks that there are no more than `most` things.
+    fn hold_count(self, count: usize, most: usize, things: &'static str) -> Held<'s> {
+        if count > most {
+            return self.wrong(Misfit::TooMany(count, most, things));
+        }
         Ok(())
     }
 
@@ -248,11 +368,6 @@ impl<'s> Mark<'s> {
             *last = step;
             self.count += 1;
         }
-    }
-
-    /// Takes the last step from the path.
-    fn leave(&mut self) {
-        self.count = self.count.saturating_sub(1);
     }
 }
 
@@ -308,92 +423,45 @@ impl fmt::Display for Misfit<'_> {
     }
 }
 
-fn hold_name(value: &Value) -> Result<(), Misfit<'_>> {
-    let name = wanted(value, value.as_str(), "a name in quotes")?;
+/// Why a text is no name, if it is none.
+fn misfit_of_name<'v>(name: &str) -> Option<Misfit<'v>> {
     if name.is_empty() {
-        return Err(Misfit::EmptyName);
+        return Some(Misfit::EmptyName);
     }
     for character in name.chars() {
         if !character.is_ascii_alphanumeric() && character != '_' {
-            return Err(Misfit::OddName(printed(character)));
+            return Some(Misfit::OddName(printed(character)));
         }
     }
     if name.len() > MAX_NAME {
-        return Err(Misfit::LongName(name.len()));
+        return Some(Misfit::LongName(name.len()));
     }
-    Ok(())
+    None
 }
 
-fn hold_number(value: &Value, low: u32, high: u32) -> Result<(), Misfit<'_>> {
-    let number = wanted(value, value.as_integer(), "a whole number")?;
-    if i64::from(low) <= number && number <= i64::from(high) {
-        Ok(())
-    } else {
-        Err(Misfit::Outside(number, low, high))
-    }
-}
-
-/// The least and the highest number that the bits of a download hold.
-fn range_of(value: &Value) -> Result<(i64, i64), Misfit<'_>> {
-    let bits = wanted(value, value.as_integer(), "a number of bits")?;
+/// The least and the highest number that so many bits of a download hold; `None` if a download hasn't so many.
+fn range_of(bits: i64) -> Option<(i64, i64)> {
     for (held, least, most) in HELD {
         if bits == held {
-            return Ok((least, most));
+            return Some((least, most));
         }
     }
-    Err(Misfit::OddBits(bits))
+    None
 }
 
-/// Checks the value of a download.
-fn hold_held(value: &Value, least: i64, most: i64) -> Result<(), Misfit<'_>> {
-    let number = wanted(value, value.as_integer(), "a whole number")?;
-    if least <= number && number <= most {
-        Ok(())
-    } else {
-        Err(Misfit::NotHeld(number, least, most))
+/// Whether an entry is a gap with a subindex.
+fn is_named_gap(entry: &Value) -> bool {
+    match items_of(Some(entry)) {
+        [index, subindex, ..] => {
+            index.as_integer() == Some(0) && subindex.as_integer() != Some(0)
+        }
+        _ => false,
     }
 }
 
-/// Checks the index of a PDO.
-fn hold_index(value: &Value, first: u16, last: u16) -> Result<(), Misfit<'_>> {
-    let number = wanted(value, value.as_integer(), "the index of a PDO")?;
-    if i64::from(first) <= number && number <= i64::from(last) {
-        Ok(())
-    } else {
-        Err(Misfit::OutsideIndices(number, first, last))
-    }
-}
-
-fn hold_direction(value: &Value) -> Result<(), Misfit<'_>> {
-    match wanted(value, value.as_str(), DIRECTIONS)? {
-        "out" | "in" => Ok(()),
-        _ => Err(Misfit::NoDirection),
-    }
-}
-
-/// Checks that there are no more than `most` things.
-fn hold_count<'v>(count: usize, most: usize, things: &'static str) -> Result<(), Misfit<'v>> {
-    if count > most {
-        return Err(Misfit::TooMany(count, most, things));
-    }
-    Ok(())
-}
-
-/// The items of a list; the error is that it is no list.
-fn listed<'v>(value: &'v Value, name: &'static str) -> Result<&'v [Value], Misfit<'v>> {
-    Ok(wanted(value, value.as_array(), name)?.as_slice())
-}
-
-/// What a value was found to be; without that, the error is that it stands in place of what is wanted.
-fn wanted<'v, T: Drop>(
-    value: &'v Value,
-    found: Option<T>,
-    name: &'static str,
-) -> Result<T, Misfit<'v>> {
-    if let Some(found) = found {
-        return Ok(found);
-    }
-    let kind = match value.type_str() {
+/// What a value is, in words.
+fn kind_of(value: &Value) -> &'static str {
+    match value.type_str() {
         "string" => "a text",
         "integer" => "a whole number",
         "float" => "a number with a point",
@@ -401,6 +469,5 @@ fn wanted<'v, T: Drop>(
         "array" => "a list",
         "table" => "a table",
         _ => "a date or a time",
-    };
-    Err(Misfit::Other(kind, name))
+    }
 }

@@ -1,6 +1,6 @@
 //! Why a text is no link table: refusals 11 to 15.
 use crate::impossible::{explain_impossible, explain_no_downloads};
-use crate::misfit::{Mark, Misfit};
+use crate::misfit::{Mark, Misfit, Wrong};
 use crate::numbers::Numbers;
 use crate::rule::{Lacking, Named, Taken, is_key, shape_of, word_of};
 use ec_diagnostic::{Diagnosis, MarkedPart, Meant, Nearest, PathStep, Printable, Span};
@@ -323,10 +323,10 @@ fn explain_misfit_under<'d>(
     let Some(value) = element.members.get(key) else {
         return false;
     };
-    let mut mark = element.under(key, MarkedPart::Value);
-    let Err(misfit) = mark.hold(value, rule) else {
+    let Err(wrong) = element.under(key, MarkedPart::Value).hold(value, rule) else {
         return false;
     };
+    let Wrong { mark, misfit } = wrong;
     let near = Meant(meant_in_pdo(diagnosis, misfit));
     mark.say(diagnosis, format_args!("{misfit}{near}"));
     true

@@ -11,37 +11,26 @@ use thiserror::Error;
 #[derive(Clone, Copy, PartialEq, Eq, Error)]
 pub enum LinkFault {
     /// The slave has the link's entry in the other direction only.
-    #[error("link {0}: the slave assigns the entry in the other direction")]
     WrongDirection(usize),
     /// The slave has no such entry.
-    #[error("link {0}: the slave assigns no such entry")]
     NoEntry(usize),
     /// The link has bits past the entry or past the variable.
-    #[error("link {0}: bits past the entry or the variable")]
     OutsideEntry(usize),
     /// The link gives a bit that an earlier link gives.
-    #[error("link {0}: a bit is linked twice")]
     LinkedTwice(usize),
     /// The slave assigns an entry twice in one direction.
-    #[error("slave {0}: an entry is assigned twice")]
     EntryTwice(usize),
     /// The slave has over 2048 bits in a direction.
-    #[error("slave {0}: over 2048 bits in a direction")]
     TooManyBits(usize),
     /// Over 64 slaves.
-    #[error("{0} slaves, and 64 are the most")]
     TooManySlaves(usize),
     /// Over 32 parts.
-    #[error("{0} parts, and 32 are the most")]
     TooManyParts(usize),
     /// Two spans of the slave's managers share a byte.
-    #[error("slave {0}: two areas overlap")]
     AreasOverlap(usize),
     /// A span of the slave's managers leaves the RAM.
-    #[error("slave {0}: an area leaves the RAM")]
     OutsideRam(usize),
     /// An input variable has links from two sync units.
-    #[error("variable {0}: links from two sync units")]
     SplitVariable(usize),
 }
 
@@ -100,6 +89,37 @@ impl LinkFault {
             | LinkFault::SplitVariable(index) => index,
             LinkFault::TooManySlaves(count) | LinkFault::TooManyParts(count) => count,
         }
+    }
+
+    /// What its text says before the value and behind it.
+    fn words(self) -> (&'static str, &'static str) {
+        match self {
+            LinkFault::WrongDirection(_) => {
+                (
+                    "link ",
+                    ": the slave assigns the entry in the other direction",
+                )
+            }
+            LinkFault::NoEntry(_) => ("link ", ": the slave assigns no such entry"),
+            LinkFault::OutsideEntry(_) => ("link ", ": bits past the entry or the variable"),
+            LinkFault::LinkedTwice(_) => ("link ", ": a bit is linked twice"),
+            LinkFault::EntryTwice(_) => ("slave ", ": an entry is assigned twice"),
+            LinkFault::TooManyBits(_) => ("slave ", ": over 2048 bits in a direction"),
+            LinkFault::TooManySlaves(_) => ("", " slaves, and 64 are the most"),
+            LinkFault::TooManyParts(_) => ("", " parts, and 32 are the most"),
+            LinkFault::AreasOverlap(_) => ("slave ", ": two areas overlap"),
+            LinkFault::OutsideRam(_) => ("slave ", ": an area leaves the RAM"),
+            LinkFault::SplitVariable(_) => ("variable ", ": links from two sync units"),
+        }
+    }
+}
+
+// One text in two parts: a derived one has a `write!` in each arm, and the prover's work grows with them, here and in each crate
+// that prints a fault.
+impl fmt::Display for LinkFault {
+    fn fmt<W: fmt::Write>(&self, f: &mut fmt::Formatter<W>) -> fmt::Result {
+        let (before, behind) = self.words();
+        write!(f, "{before}{}{behind}", self.value())
     }
 }
 

@@ -201,32 +201,32 @@ fn is_placeholder(part: &str) -> bool
 fn action_of_form(form: Form, words: Operands<'_>) -> Option<LineAction>
     ensures { result ≡ action_of_form words.entry.table.now (map (λ x. x.now) words.entry.words.now) form }
 {
-    Some(match form {
-        Form::Start => LineAction::Start,
-        Form::Set => set_action(words.assignment(1, 2)?),
-        Form::Begin => LineAction::Begin,
-        Form::Pass => LineAction::Pass(words.index(1)?),
-        Form::LosePart => LineAction::LosePart(words.index(1)?, words.index(3)?),
-        Form::Lose => LineAction::Lose(words.index(1)?),
-        Form::Return => LineAction::Return(words.index(1)?),
-        Form::Close => LineAction::Close,
-        Form::Serve => LineAction::Serve(words.slave(1)?),
-        Form::Put => LineAction::Put(words.slave(1)?, words.index(2)?, words.byte(3)?),
-        Form::Get => LineAction::Get(words.slave(1)?, words.index(2)?),
-        Form::Fail => LineAction::Fail(words.slave(1)?),
-        Form::Reset => LineAction::Reset(words.slave(1)?),
-        Form::Input => input_action(words.assignment(1, 2)?),
-        Form::Output => LineAction::Output(words.variable(1)?),
-        Form::Ready => LineAction::Ready,
-        Form::Cycle => LineAction::Cycle,
-        Form::ShowVariable => LineAction::ShowVariable(words.variable(1)?),
-        Form::Show => LineAction::Show,
-        Form::Report => LineAction::Report,
-        Form::States => LineAction::States,
-        Form::Stop => LineAction::Stop,
-        Form::Served => LineAction::Served,
-        Form::Expect(form) => LineAction::Expect(expectation_of_form(form, words)?),
-    })
+    match form {
+        Form::Start => Some(LineAction::Start),
+        Form::Set => words.assignment(1, 2).map(set_action),
+        Form::Begin => Some(LineAction::Begin),
+        Form::Pass => words.index(1).map(LineAction::Pass),
+        Form::LosePart => Some(LineAction::LosePart(words.index(1)?, words.index(3)?)),
+        Form::Lose => words.index(1).map(LineAction::Lose),
+        Form::Return => words.index(1).map(LineAction::Return),
+        Form::Close => Some(LineAction::Close),
+        Form::Serve => words.slave(1).map(LineAction::Serve),
+        Form::Put => Some(LineAction::Put(words.slave(1)?, words.index(2)?, words.byte(3)?)),
+        Form::Get => Some(LineAction::Get(words.slave(1)?, words.index(2)?)),
+        Form::Fail => words.slave(1).map(LineAction::Fail),
+        Form::Reset => words.slave(1).map(LineAction::Reset),
+        Form::Input => words.assignment(1, 2).map(input_action),
+        Form::Output => words.variable(1).map(LineAction::Output),
+        Form::Ready => Some(LineAction::Ready),
+        Form::Cycle => Some(LineAction::Cycle),
+        Form::ShowVariable => words.variable(1).map(LineAction::ShowVariable),
+        Form::Show => Some(LineAction::Show),
+        Form::Report => Some(LineAction::Report),
+        Form::States => Some(LineAction::States),
+        Form::Stop => Some(LineAction::Stop),
+        Form::Served => Some(LineAction::Served),
+        Form::Expect(form) => expectation_of_form(form, words).map(LineAction::Expect),
+    }
 }
 
 /// What words of this form expect; `None` if one of them isn't what the form needs there.

@@ -64,14 +64,15 @@ impl<'l> Operands<'l> {
     pub fn assignment(self, name: usize, value: usize) -> Option<(usize, WrittenValue)>
         ensures { result ≡ assignment_at self.entry.table.now (map (λ x. x.now) self.entry.words.now) name value }
     {
-        let variable = variable_named(self.table.variables(), self.word(name)?)?;
+        let variable = self.variable(name)?;
         let value = value_for(self.table, variable, self.word(value)?)?;
         Some((variable, value))
     }
 
     /// The variable that the word at a place names.
     pub fn variable(self, place: usize) -> Option<usize>
-        ensures { result ≡ variable_at self.entry.table.now (map (λ x. x.now) self.entry.words.now) place }
+        ensures place { result ≡ variable_at self.entry.table.now (map (λ x. x.now) self.entry.words.now) place }
+        ensures there { IfSome result (λ variable. variable < length self.entry.table.now.variables) }
     {
         variable_named(self.table.variables(), self.word(place)?)
     }
@@ -81,7 +82,7 @@ impl<'l> Operands<'l> {
     pub fn held(self, name: usize, value: usize) -> Option<(usize, Option<u64>)>
         ensures { result ≡ held_at self.entry.table.now (map (λ x. x.now) self.entry.words.now) name value }
     {
-        let variable = variable_named(self.table.variables(), self.word(name)?)?;
+        let variable = self.variable(name)?;
         let number = held_for(self.table, variable, self.word(value)?)?;
         Some((variable, number))
     }
@@ -90,7 +91,7 @@ impl<'l> Operands<'l> {
     pub fn mask(self, name: usize, value: usize) -> Option<(usize, Option<u64>)>
         ensures { result ≡ mask_at self.entry.table.now (map (λ x. x.now) self.entry.words.now) name value }
     {
-        let variable = variable_named(self.table.variables(), self.word(name)?)?;
+        let variable = self.variable(name)?;
         let mask = mask_for(self.table, variable, self.word(value)?)?;
         Some((variable, mask))
     }
@@ -99,7 +100,7 @@ impl<'l> Operands<'l> {
     pub fn bounds(self, name: usize, range: usize) -> Option<(usize, (Option<u64>, Option<u64>))>
         ensures { result ≡ bounds_at self.entry.table.now (map (λ x. x.now) self.entry.words.now) name range }
     {
-        let variable = variable_named(self.table.variables(), self.word(name)?)?;
+        let variable = self.variable(name)?;
         let bounds = bounds_for(self.table, variable, self.word(range)?)?;
         Some((variable, bounds))
     }

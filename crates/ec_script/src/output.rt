@@ -6,12 +6,12 @@ ghost use Rattle.ec_script.specs.Outputs.{answer_of, is_counted, is_done, is_unm
 ghost use Rattle.ec_script.specs.Texts.{byte_text, output_text, value_text};
 
 use crate::met::is_failed;
-use crate::states::state_lines;
+use crate::states::write_states;
 use crate::view::MasterView;
 use ec_asking::AlStatus;
 use ec_start::StartError;
 use ec_table::{Table, VariableRow, Version};
-use ec_text::{input_lines, write_outcome, write_report};
+use ec_text::{write_inputs, write_outcome, write_report};
 use std::alloc::{AllocError, Global};
 use std::fmt::Write as _;
 
@@ -123,19 +123,34 @@ pub fn output_text(
     ensures { IfOk result (λ text. string_bytes text ≡ output_text table.now number view.now states.now output) }
 {
     let mut text = String::new(alloc);
-    match output {
-        LineOutput::Nothing => {}
-        LineOutput::No => writeln!(text, "no {number}")?,
-        LineOutput::Unmet => writeln!(text, "unmet {number}")?,
-        LineOutput::Byte => write_byte(alloc, &mut text, view.byte)?,
-        LineOutput::Ended => write_outcome(&mut text, view.outcome)?,
-        LineOutput::Report => write_last(alloc, &mut text, table.version(), view)?,
-        LineOutput::Values => return input_lines(alloc, table, view.master),
-        LineOutput::States => return state_lines(alloc, table, states),
-        LineOutput::Fault => text.push_str("fault 37 Wire\n")?,
-        LineOutput::Value(variable, value) => write_value(&mut text, table, variable, value)?,
-    }
+    write_output(alloc, &mut text, table, number, output, view, states)?;
     Ok(text)
+}
+
+/// Adds what line `number` prints for an output.
+fn write_output(
+    alloc: Global,
+    text: &mut String,
+    table: &Table,
+    number: usize,
+    output: LineOutput,
+    view: &MasterView<'_, '_>,
+    states: &[Option<AlStatus>],
+) -> Result<(), AllocError>
+    ensures { OnOk result (string_bytes text.new ≡ string_bytes text.old ++ output_text table.now number view.now states.now output) }
+{
+    match output {
+        LineOutput::Nothing => Ok(()),
+        LineOutput::No => writeln!(text, "no {number}"),
+        LineOutput::Unmet => writeln!(text, "unmet {number}"),
+        LineOutput::Byte => write_byte(alloc, text, view.byte),
+        LineOutput::Ended => write_outcome(text, view.outcome),
+        LineOutput::Report => write_last(alloc, text, table.version(), view),
+        LineOutput::Values => write_inputs(text, view.master, table),
+        LineOutput::States => write_states(alloc, text, table.slaves(), states),
+        LineOutput::Fault => text.push_str("fault 37 Wire\n"),
+        LineOutput::Value(variable, value) => write_value(text, table, variable, value),
+    }
 }
 
 /// Adds the line of a variable and its value, if there is such a variable.

@@ -1,34 +1,21 @@
 //! The AL states of slaves as text.
-ghost use Rattle.std.specs.Prelude.{◌≡◌, ◌++◌, None, IfOk, OnOk, get_or, string_bytes};
+ghost use Rattle.std.specs.Prelude.{◌≡◌, ◌++◌, None, OnOk, get_or, string_bytes};
 ghost use Rattle.ec_text.specs.PlanText.{lines_from};
-ghost use Rattle.ec_script.specs.States.{flag_text, line_text, name_text, state_line, states_text, status_text};
+ghost use Rattle.ec_script.specs.States.{flag_text, line_text, name_text, state_line, status_text};
 
 use ec_asking::AlStatus;
-use ec_table::{SlaveRow, Table};
+use ec_table::SlaveRow;
 use ec_text::write_word;
 use std::alloc::{AllocError, Global};
 use std::fmt::Write as _;
 
-/// The lines of the AL states of a table's slaves; `states` has none of a slave that doesn't answer.
+/// Adds the lines of the AL states of a table's slaves; `states` has none of a slave that doesn't answer.
 ///
 /// # Errors
 ///
 /// `AllocError` if memory ran out.
-pub(crate) fn state_lines(
-    alloc: Global,
-    table: &Table,
-    states: &[Option<AlStatus>],
-) -> Result<String, AllocError>
-    ensures { IfOk result (λ text. string_bytes text ≡ states_text table.now states.now) }
-{
-    let mut text = String::new(alloc);
-    write_states(alloc, &mut text, table.slaves(), states)?;
-    Ok(text)
-}
-
-/// Adds the line of each slave.
 #[tactic(auto, using(crate::proofs::SlaveLines::slave_steps))]
-fn write_states(
+pub(crate) fn write_states(
     alloc: Global,
     text: &mut String,
     rows: &[SlaveRow],

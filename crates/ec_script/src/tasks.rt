@@ -41,12 +41,9 @@ pub fn tasks_of_words(
 fn denied_words<'w, 't>(words: &'w [&'t str]) -> Option<&'w [&'t str]>
     ensures { option_map (λ line. map (λ x. x.now) line.now) result ≡ denied_words (map (λ x. x.now) words.now) }
 {
-    let (verb, rest) = words.split_first()?;
-    let (no, line) = rest.split_first()?;
-    if *verb == "expect" && *no == "no" {
-        Some(line)
-    } else {
-        None
+    match words {
+        [verb, no, line @ ..] if *verb == "expect" && *no == "no" => Some(line),
+        _ => None,
     }
 }
 
@@ -157,11 +154,10 @@ fn actions_of_words(
 fn single_of_words(table: &Table, words: &[&str]) -> Option<LineAction>
     ensures { result ≡ single_of table.now (map (λ x. x.now) words.now) }
 {
-    let (verb, rest) = words.split_first()?;
-    if *verb == "within" {
-        within_of_words(table, rest)
-    } else {
-        action_of_words(table, words)
+    match words {
+        [] => None,
+        [verb, rest @ ..] if *verb == "within" => within_of_words(table, rest),
+        _ => action_of_words(table, words),
     }
 }
 
@@ -186,9 +182,10 @@ fn one_action(
 fn within_of_words(table: &Table, words: &[&str]) -> Option<LineAction>
     ensures { result ≡ within_of table.now (map (λ x. x.now) words.now) }
 {
-    let (count, line) = words.split_first()?;
-    let times = times_of(count)?;
-    within_if(times, action_of_words(table, line)?)
+    match words {
+        [] => None,
+        [count, line @ ..] => within_if(times_of(count)?, action_of_words(table, line)?),
+    }
 }
 
 /// Cycles until what an action expects holds; `None` if it expects nothing.

@@ -1,11 +1,11 @@
 //! What a slave does with a datagram, by its command and address.
-ghost use Rattle.std.specs.Prelude.{◌≡◌, ◌+◌, ◌*◌, ◌%◌, if◌then◌else◌};
+ghost use Rattle.std.specs.Prelude.{◌≡◌, ◌+◌, ◌*◌, ◌%◌, ◌==◌, if◌then◌else◌};
 ghost use Rattle.std.specs.Int.{from_bool};
 ghost use Rattle.ec_slave.specs.Encounters.{encounter_of};
 ghost use Rattle.ec_slave.specs.Mapped.{weight};
 ghost use Rattle.ec_slave.specs.Roles.{is_reading, is_writing};
+ghost use Rattle.ec_slave.specs.State.{station_of};
 ghost use Rattle.ec_slave.specs.declared.role.Encounter.TheVariants.{Physical};
-ghost use Rattle.ec_slave.specs.declared.role.Role.TheVariants.{Nothing, Read, Write};
 
 use crate::slave::Slave;
 use ec_frame::Command;
@@ -55,35 +55,6 @@ impl Role {
         let weight = if self.reads() && self.writes() { 2 } else { 1 };
         is_read as u16 + weight * is_written as u16
     }
-
-    fn read_or_write(is_meant: bool) -> Role
-        ensures { result ≡ (if is_meant then Read else Write) }
-    {
-        if is_meant { Role::Read } else { Role::Write }
-    }
-
-    fn only_if(self, is_meant: bool) -> Role
-        ensures { result ≡ (if is_meant then self else Nothing) }
-    {
-        if is_meant { self } else { Role::Nothing }
-    }
-
-    /// A meeting in this role; the ADP stays.
-    fn leaving(self, adp: u16) -> Encounter
-        ensures { result ≡ Physical self adp }
-    {
-        Encounter::Physical { role: self, adp }
-    }
-
-    /// A meeting in this role; the slave adds 1 to the ADP.
-    fn counting(self, adp: u16) -> Encounter
-        ensures { result ≡ Physical self ((adp + 1) % 65536) }
-    {
-        Encounter::Physical {
-            role: self,
-            adp: adp.wrapping_add(1),
-        }
-    }
 }
 
 /// How a datagram meets a slave.
@@ -103,6 +74,34 @@ pub(crate) enum Encounter {
 }
 
 impl Encounter {
+    /// A meeting by position: in `role` at the slave whose position is 0, and in the other role elsewhere. The slave adds 1 to
+    /// the ADP.
+    fn by_position(role: Role, other: Role, adp: u16) -> Encounter
+        ensures { result ≡ Physical (if adp == 0 then role else other) ((adp + 1) % 65536) }
+    {
+        let role = if adp == 0 { role } else { other };
+        let adp = adp.wrapping_add(1);
+        Encounter::Physical { role, adp }
+    }
+
+    /// A meeting by station: in `role` at the slave whose station address is the ADP, and in the other role elsewhere. The ADP
+    /// stays.
+    fn by_station(role: Role, other: Role, adp: u16, slave: &Slave) -> Encounter
+        ensures { result ≡ Physical (if adp == station_of slave.now then role else other) adp }
+    {
+        let is_meant = adp == slave.station_address();
+        let role = if is_meant { role } else { other };
+        Encounter::Physical { role, adp }
+    }
+
+    /// A meeting with all slaves. Each adds 1 to the ADP.
+    fn by_broadcast(role: Role, adp: u16) -> Encounter
+        ensures { result ≡ Physical role ((adp + 1) % 65536) }
+    {
+        let adp = adp.wrapping_add(1);
+        Encounter::Physical { role, adp }
+    }
+
     /// How a datagram with this command and ADP meets a slave, by the table of commands (ETG.1000.4, "EtherCAT
     /// commands"). Each slave adds 1 to a position, reached or not, and a station's number stays. A slave whose type takes
     /// no part in LRW lets it pass. Only a command that names a station reads the slave's address.
@@ -112,21 +111,15 @@ impl Encounter {
     {
         match command {
             Command::Nop => Encounter::Passing,
-            Command::Aprd => Role::Read.only_if(adp == 0).counting(adp),
-            Command::Apwr => Role::Write.only_if(adp == 0).counting(adp),
-            Command::Aprw => Role::ReadWrite.only_if(adp == 0).counting(adp),
-            Command::Fprd => Role::Read
-                .only_if(adp == slave.station_address())
-                .leaving(adp),
-            Command::Fpwr => Role::Write
-                .only_if(adp == slave.station_address())
-                .leaving(adp),
-            Command::Fprw => Role::ReadWrite
-                .only_if(adp == slave.station_address())
-                .leaving(adp),
-            Command::Brd => Role::OrRead.counting(adp),
-            Command::Bwr => Role::Write.counting(adp),
-            Command::Brw => Role::OrReadWrite.counting(adp),
+            Command::Aprd => Encounter::by_position(Role::Read, Role::Nothing, adp),
+            Command::Apwr => Encounter::by_position(Role::Write, Role::Nothing, adp),
+            Command::Aprw => Encounter::by_position(Role::ReadWrite, Role::Nothing, adp),
+            Command::Fprd => Encounter::by_station(Role::Read, Role::Nothing, adp, slave),
+            Command::Fpwr => Encounter::by_station(Role::Write, Role::Nothing, adp, slave),
+            Command::Fprw => Encounter::by_station(Role::ReadWrite, Role::Nothing, adp, slave),
+            Command::Brd => Encounter::by_broadcast(Role::OrRead, adp),
+            Command::Bwr => Encounter::by_broadcast(Role::Write, adp),
+            Command::Brw => Encounter::by_broadcast(Role::OrReadWrite, adp),
             Command::Lrd => Encounter::Logical(Role::Read),
             Command::Lwr => Encounter::Logical(Role::Write),
             Command::Lrw => {
@@ -136,8 +129,8 @@ impl Encounter {
                     Encounter::Passing
                 }
             }
-            Command::Armw => Role::read_or_write(adp == 0).counting(adp),
-            Command::Frmw => Role::read_or_write(adp == slave.station_address()).leaving(adp),
+            Command::Armw => Encounter::by_position(Role::Read, Role::Write, adp),
+            Command::Frmw => Encounter::by_station(Role::Read, Role::Write, adp, slave),
         }
     }
 }

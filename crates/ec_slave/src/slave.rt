@@ -170,7 +170,8 @@ impl Slave {
             Some(place) => {
                 let manager = &self.managers[place];
                 let start = manager.settings().start as usize;
-                let at = first.checked_sub(start)?;
+                // it begins at the first of them or before it, if there is one
+                let at = first.saturating_sub(start);
                 part_of(manager.visible(), at, count)
             }
         }

@@ -1,5 +1,5 @@
 -- The values under the keys of a table, found in one pass over its members.
-use Rattle.std.proofs.Common.{◌≡◌, ◌≢◌, ◌<◌, ◌≤◌, ◌+◌, ℕ, slice_set, get_or-set_same, get_or-set_other, Bool, true, false, ◌&&◌, ◌||◌, not, List, [], ◌∷◌, ◌++◌, length, map, get_or, Option, Some, None, is_some, if◌then◌else◌, Ordering, Less, Equal, Greater, nat_cmp, Bor, codes, refl, ap, sym, ◌∙◌, subst, arith}
+use Rattle.std.proofs.Common.{◌≡◌, ◌≢◌, ◌<◌, ◌≤◌, ◌+◌, ℕ, zero, suc, slice_set, get_or-set_same, get_or-set_other, Bool, true, false, ◌&&◌, ◌||◌, not, List, [], ◌∷◌, ◌++◌, length, map, get_or, Option, Some, None, is_some, if◌then◌else◌, Ordering, Less, Equal, Greater, nat_cmp, Bor, codes, refl, ap, sym, ◌∙◌, subst, arith}
 use mathlib.Core.Bool.{cond}
 use Rattle.std.specs.List.{list_all, list_any, position, position_or_len}
 use Rattle.std.specs.Str.{bytes_eq}
@@ -25,7 +25,7 @@ use Rattle.ec_table.specs.declared.rows.Version.TheVariants as versions
 use Rattle.ec_table.specs.Fields.{viewed, full_format, required, optional, is_key, each_key, has_required, keys_are}
 use Rattle.ec_table.specs.Keys.{KeyRow, key_row, keys_of, names_of, place_in, rule_at}
 use Rattle.ec_table.specs.Values.{AreUnder}
-use Rattle.ec_table.proofs.NameIndex.{has_place}
+use Rattle.ec_table.proofs.NameIndex.{before_end, has_place}
 use Rattle.ec_table.proofs.OnePass.{one_more_key, or_none}
 
 -- ---- names that are the same, in another order
@@ -294,10 +294,6 @@ values_at_end s found ms finds = under_in s found ms (found_all found (names_of 
 
 -- ---- places
 
-before_end : {X : Type 0} (p : X → Bool) (xs : List X) (i : ℕ) (b : Bool) → nat_lt (position_or_len p xs) (length xs) ≡ b → cond b (Some (position_or_len p xs)) None ≡ Some i → i < length xs
-before_end p xs i true lt is = let e : position_or_len p xs ≡ i = cc in grind (arith, nat_tests)
-before_end p xs i false lt is = absurd (cc)
-
 few_keys : (s : Shape) → length (names_of s full_format) ≤ 18
 few_keys shape.Document = omega arith
 few_keys shape.Type = omega arith
@@ -311,3 +307,20 @@ pub place_inside : (s : Shape) (key : List ℕ) (i : ℕ) → position (bytes_eq
 place_inside s key i is =
     let inside : i < length (names_of s full_format) = before_end (bytes_eq key) (names_of s full_format) i (nat_lt (position_or_len (bytes_eq key) (names_of s full_format)) (length (names_of s full_format))) refl is in
     omega (arith, inside, few_keys s)
+
+pub place_short : (s : Shape) (f : Format) (key : List ℕ) (i : ℕ) → place_in s f key ≡ Some i → i < 18
+place_short s f key i is = place_inside s key i (known_place s f key i is).1
+
+-- ---- before the first member
+
+abbrev pub AreNone : List (Option (Bor Value)) → Type 0
+AreNone found = list_all (λ o. not (is_some o)) found ≡ true
+
+none_at : (found : List (Option (Bor Value))) (i : ℕ) → AreNone found → get_or found i None ≡ None
+none_at [] i all = refl
+none_at (None ∷ found) zero all = refl
+none_at (None ∷ found) (suc i) all = none_at found i all
+none_at (Some v ∷ found) i all = absurd (let z : false ≡ true = all in cc)
+
+pub none_found : (found : List (Option (Bor Value))) (keys : List (List ℕ)) (ms : Members) → AreNone found → Finds found keys ms ms
+none_found found keys ms all name i is = ap (λ o. option_or (viewed o) (get_member name ms)) (none_at found i all)

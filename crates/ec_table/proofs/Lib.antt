@@ -14,6 +14,8 @@ pub mod KeysTaken
 pub mod SectionRows
 -- a type whose values were found under its keys
 pub mod TypeFound
+-- a slave whose values were found under its keys
+pub mod SlaveFound
 -- what a value that was read meets, along a chain of tests
 pub mod ValueTests
 -- the parts of a type as the reader finds them, each with its ranges, beside the limits of a slave's type

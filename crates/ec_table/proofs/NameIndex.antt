@@ -42,6 +42,10 @@ position_push p xs y =
     let count : length (xs ++ y ∷ []) ≡ length xs + 1 = length-append xs (y ∷ []) in
     rw (position_or_len_push p xs y, count) (one_more_place (position_or_len p xs) (length xs) (p y) (prefix_len-le-length (λ x. not (p x)) xs))
 
+pub before_end : {X : Type 0} (p : X → Bool) (xs : List X) (i : ℕ) (b : Bool) → nat_lt (position_or_len p xs) (length xs) ≡ b → cond b (Some (position_or_len p xs)) None ≡ Some i → i < length xs
+before_end p xs i true lt is = let e : position_or_len p xs ≡ i = cc in grind (arith, nat_tests)
+before_end p xs i false lt is = absurd (cc)
+
 -- ---- names
 
 pub name_fits : (s : List ℕ) → is_name s ≡ true → length s ≤ 32
@@ -52,6 +56,10 @@ name_fits s h =
 
 pub named_at : {X : Type 0} (name_of : X → List ℕ) (name : List ℕ) (rows : List X) → is_some (index_named name_of name rows) ≡ is_named name_of name rows
 named_at name_of name rows = has_place (λ x. bytes_eq (name_of x) name) rows
+
+-- the place of a name is that of a row
+pub place_within : {X : Type 0} (name_of : X → List ℕ) (name : List ℕ) (rows : List X) (i : ℕ) → Some i ≡ index_named name_of name rows → i < length rows
+place_within name_of name rows i is = before_end (λ x. bytes_eq (name_of x) name) rows i (nat_lt (position_or_len (λ x. bytes_eq (name_of x) name) rows) (length rows)) refl (sym is)
 
 one_of_two : (first second : Bool) (n l : ℕ) → (second ≡ true → first ≡ false) → cond first (Some n) (cond second (Some l) None) ≡ cond second (Some l) (cond first (Some n) None)
 one_of_two true true n l h = absurd (grind (arith, h refl))

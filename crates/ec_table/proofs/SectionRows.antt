@@ -1,5 +1,5 @@
 -- One row of a section, and the end.
-use Rattle.std.proofs.Common.{◌≡◌, ℕ, ◌+◌, ◌<◌, ◌≤◌, List, [], ◌∷◌, ◌++◌, length, get_or, drop, Result, Ok, Err, refl, sym, ap, ◌∙◌, arith, length-append}
+use Rattle.std.proofs.Common.{◌≡◌, ℕ, ◌+◌, ◌<◌, ◌≤◌, List, [], ◌∷◌, ◌++◌, length, get_or, drop, Result, Ok, Err, IfErr, refl, sym, ap, subst, ◌∙◌, arith, length-append}
 use Rattle.std.proofs.lemmas.List.{drop_all}
 use Rattle.toml.specs.Data.{Data}
 use Rattle.toml.specs.View.{view, items_view}
@@ -78,6 +78,32 @@ next_fails row found vs left v whole (Refused fault) is same f = sym same ∙ rw
 pub told : {X : Type 0} (result : Result X TableError) (f : Fault) (whole : Result X Fault) → IsErr result × IsErrAnd result (λ e. e ≡ Refused f) → whole ≡ Err f → Gives result whole
 told (Ok x) f whole h is = absurd h.1
 told (Err e) f whole h is = rw h.1 is
+
+-- what ends the reading ends what holds it
+pub gives_err : {X : Type 0} (result : Result X TableError) (e : TableError) (whole : Result X Fault) → IsErr result × IsErrAnd result (λ x. x ≡ e) → Fails e whole → Gives result whole
+gives_err (Ok x) e whole h fails = absurd h.1
+gives_err (Err x) e whole h fails = rw h.1 fails
+
+-- the same reading, by another name
+pub gives_as : {X : Type 0} (result : Result X TableError) (whole read : Result X Fault) → whole ≡ read → Gives result read → Gives result whole
+gives_as result whole read same h = subst (λ r. Gives result r) (sym same) h
+
+-- a fault that ends a part ends the whole
+pub ends_with : {X Y : Type 0} (result : Result X TableError) (f : Fault) (whole : Result Y Fault) → IsErr result × IsErrAnd result (λ e. e ≡ Refused f) → whole ≡ Err f → IfErr result (λ e. Fails e whole)
+ends_with (Ok x) f whole h is = tt
+ends_with (Err e) f whole h is = rw h.1 is
+
+-- the same, unless memory ran out
+pub part_fails : {X Y Z : Type 0} (result : Result X TableError) (e : TableError) (read : Result Y Fault) (whole : Result Z Fault) → IsErr result × IsErrAnd result (λ x. x ≡ e) → Fails e read → ((f : Fault) → read ≡ Err f → whole ≡ Err f) → IfErr result (λ x. Fails x whole)
+part_fails (Ok x) e read whole h fails told = tt
+part_fails (Err x) Memory read whole h fails told = rw h.1 tt
+part_fails (Err x) (Refused f) read whole h fails told = rw h.1 (told f fails)
+
+-- and what gives it
+pub part_gives : {X Y : Type 0} (result : Result X TableError) (e : TableError) (read : Result Y Fault) (whole : Result X Fault) → IsErr result × IsErrAnd result (λ x. x ≡ e) → Fails e read → ((f : Fault) → read ≡ Err f → whole ≡ Err f) → Gives result whole
+part_gives (Ok x) e read whole h fails told = absurd h.1
+part_gives (Err x) Memory read whole h fails told = rw h.1 tt
+part_gives (Err x) (Refused f) read whole h fails told = rw h.1 (told f fails)
 
 -- the fault of a row ends the reading
 pub row_told : {X : Type 0} (row : ℕ → Data → List X → Result X Fault) (found : List X) (vs left : List Value) (v : Value) (whole : Result (List X) Fault) (n : ℕ) (f : Fault) (result : Result (List X) TableError) → vs ≡ v ∷ left

@@ -169,6 +169,16 @@ slave_of_type types p name type_name w = do
   t ← ok_or (slice_get types at) (UnknownName p)
   assigned_in p t (record { name = name; type_index = at; outputs = unwrap_or w.outputs (indices_of t.process.outputs); inputs = unwrap_or w.inputs (indices_of t.process.inputs); serial = w.serial; unit = w.unit; init = w.init })
 
+-- what a slave's element states beside names, by the values under `out`, `in`, `serial`, `unit` and `init`
+unfoldable pub written_in : Position → Option Data → Option Data → Option Data → Option Data → Option Data → Result Written Fault
+written_in p out_written in_written serial_written unit_written init_written = do
+  outputs ← numbers_in p first_output_index last_output_index out_written
+  inputs ← numbers_in p first_input_index last_input_index in_written
+  serial ← number_or_0 p 4294967295 serial_written
+  unit ← number_or_0 p 63 unit_written
+  init ← parameters_in p init_written
+  Ok (record { outputs = outputs; inputs = inputs; serial = serial; unit = unit; init = init })
+
 -- the slave of this name that an element states; whether another slave has the name
 unfoldable pub slave_named : List TypeRow → Position → Members → List ℕ → Bool → Result SlaveRow Fault
 slave_named types p ms name is_taken = do

@@ -1,11 +1,16 @@
 //! Reads the slaves that elements state.
-ghost use Rattle.std.specs.Prelude.{◌≡◌, ◌||◌, [], false, Err, IfErr, IfOk, Ok, OnOk, unwrap_or};
+ghost use Rattle.std.specs.Prelude.{◌≡◌, ◌||◌, [], false, Err, IfErr, IfOk, None, Ok, OnOk, get_or, unwrap_or};
+ghost use Rattle.toml.specs.Data.{Members};
 ghost use Rattle.toml.specs.View.{view, table_view, items_view};
+ghost use Rattle.ec_table.specs.Fields.{full_format, viewed};
+ghost use Rattle.ec_table.specs.Keys.{names_of};
 ghost use Rattle.ec_table.specs.Pdos.{has_twice, indices_of};
 ghost use Rattle.ec_table.specs.InOrder.{Gives, rows_after};
 ghost use Rattle.ec_table.specs.Names.{is_named};
+ghost use Rattle.ec_table.specs.Values.{AreUnder};
+ghost use Rattle.ec_table.specs.declared.keys.Shape.TheVariants as shape;
 ghost use Rattle.ec_table.specs.declared.rows.SlaveRow.{SlaveRow};
-ghost use Rattle.ec_table.specs.Reading.{all_in, assigned_in, same_list, slave_at, slave_element, slave_of_type, suits};
+ghost use Rattle.ec_table.specs.Reading.{all_in, assigned_in, same_list, slave_at, slave_element, slave_named, slave_of_type, suits, written_in};
 
 use crate::fault::{Fault, Position, Section, TableError};
 use crate::fields::{name_in, numbers_in};
@@ -14,7 +19,7 @@ use crate::named::{Named, NamedRows};
 use crate::parameters::{are_taken, parameters_in};
 use crate::pdos::{has_twice, indices_of, is_index};
 use crate::rows::{Format, Name, ProcessData, SlaveRow, TypeRow};
-use crate::values::values_of;
+use crate::values::{Values, values_of};
 use ec_device::{Parameter, Pdo};
 use ec_listed::Listed;
 use std::alloc::{AllocError, Global};
@@ -79,7 +84,7 @@ fn slave_element(
 }
 
 /// The slave that the members of an element state, or their first fault.
-#[tactic(auto, unfolding(crate::specs::Reading::slave_at, crate::specs::Reading::slave_named))]
+#[tactic(auto, unfolding(crate::specs::Reading::slave_at))]
 fn slave_at(
     alloc: Global,
     format: Format,
@@ -95,7 +100,41 @@ fn slave_at(
         return Err(TableError::Refused(Fault::BadKey(position)));
     };
     let name = name_in(position, values.at(0))?;
+    let is_taken = found.has(&name);
+    slave_named(alloc, types, position, &values, name, is_taken)
+}
+
+/// The slave of this name that the values under its keys state, or their first fault. `is_taken` is whether another slave has the
+/// name.
+#[tactic(auto, unfolding(crate::specs::Reading::slave_named))]
+fn slave_named(
+    alloc: Global,
+    types: &NamedRows<TypeRow>,
+    position: Position,
+    values: &Values<'_>,
+    name: Name,
+    is_taken: bool,
+) -> Result<SlaveRow, TableError>
+    requires { values.now.shape ≡ shape.Slave }
+    ensures value { (ms : Members) → AreUnder values.now.found 0 (names_of shape.Slave full_format) ms
+        → Gives result (slave_named types.now position ms name is_taken) }
+    ensures fresh { IfOk result (λ s. (s.name ≡ name) × (is_taken ≡ false)) }
+{
     let type_name = name_in(position, values.at(1))?;
+    let written = written_in(alloc, position, values)?;
+    if is_twice(is_taken, &written.outputs, &written.inputs) {
+        return Err(TableError::Refused(Fault::TwiceNamed(position)));
+    }
+    slave_of_type(alloc, types, position, name, &type_name, written)
+}
+
+/// What a slave's element states beside names.
+#[tactic(auto, unfolding(crate::specs::Reading::written_in))]
+fn written_in(alloc: Global, position: Position, values: &Values<'_>) -> Result<Written, TableError>
+    requires { values.now.shape ≡ shape.Slave }
+    ensures { let found = values.now.found in
+        Gives result (written_in position (viewed (get_or found 2 None)) (viewed (get_or found 3 None)) (viewed (get_or found 4 None)) (viewed (get_or found 5 None)) (viewed (get_or found 6 None))) }
+{
     let (first, last) = values.indices(2);
     let outputs = numbers_in(alloc, position, values.at(2), first, last)?;
     let (first, last) = values.indices(3);
@@ -103,17 +142,13 @@ fn slave_at(
     let serial = values.number_or_0(position, 4)?;
     let unit = values.number_or_0(position, 5)?;
     let init = parameters_in(alloc, position, values.at(6))?;
-    if is_twice(found.has(&name), &outputs, &inputs) {
-        return Err(TableError::Refused(Fault::TwiceNamed(position)));
-    }
-    let written = Written {
+    Ok(Written {
         outputs,
         inputs,
         serial,
         unit: unit as u8,
         init,
-    };
-    slave_of_type(alloc, types, position, name, &type_name, written)
+    })
 }
 
 /// The slave of this name and type, with what its element states.

@@ -47,7 +47,11 @@ fn write_input(text: &mut String, row: &VariableRow, number: i128) -> Result<(),
 }
 
 /// Adds the lines of the input variables of a master.
-fn write_inputs(text: &mut String, master: &Master<'_>, table: &Table) -> Result<(), AllocError>
+///
+/// # Errors
+///
+/// `AllocError` if memory ran out.
+pub fn write_inputs(text: &mut String, master: &Master<'_>, table: &Table) -> Result<(), AllocError>
     ensures { OnOk result (string_bytes text.new
         ≡ string_bytes text.old ++ lines_from (input_line table.now (value_of_variable master.now)) 0 table.now.variables) }
 {

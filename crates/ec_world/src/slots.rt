@@ -196,22 +196,34 @@ impl Slots {
 fn clearance_behind(slots: &[Slot], frame: &Progress) -> usize
     ensures { result ≡ fold (clearance_behind frame.now) no_end (flights_progress slots.now) }
 {
-    slots.iter().map(|slot| slot.progress()).fold(
-        usize::MAX,
-        |far, other| frame.clearance_behind(far, other),
-    )
+    let mut far = usize::MAX;
+    for slot in slots {
+        let other = slot.progress();
+        far = frame.clearance_behind(far, other);
+    }
+    far
 }
 
 /// The lowest free slot of these.
 fn first_free(slots: &[Slot]) -> Option<usize>
     ensures { result ≡ position (λ o. is_none o) slots.now }
 {
-    slots.iter().position(|slot| slot.is_free())
+    for (place, slot) in slots.iter().enumerate() {
+        if slot.is_free() {
+            return Some(place);
+        }
+    }
+    None
 }
 
 /// How many of these slots are free.
 fn free_of(slots: &[Slot]) -> usize
     ensures { result ≡ count_by (λ o. is_none o) slots.now }
 {
-    slots.iter().filter(|slot| slot.is_free()).count()
+    let mut count = 0;
+    for slot in slots {
+        let is_free = slot.is_free();
+        count += is_free as usize;
+    }
+    count
 }

@@ -7,16 +7,10 @@ mod events;
 mod life;
 mod model;
 
-ghost use Rattle.std.specs.Prelude.{◌≡◌, None};
-ghost use Rattle.ec_link.specs.Faults.{compile_fault};
-ghost use Rattle.ec_link.specs.Plan.{plan_of};
-
 use crate::args::number;
 use crate::runs::events::Kind;
 use crate::runs::life::{Seen, live};
-use ec_bringup::identities_of;
-use ec_link::{Plan, compile};
-use ec_table::{Table, read_table};
+use ec_link::Machine;
 use std::alloc::{AllocError, Global};
 use std::io;
 use std::io::Write;
@@ -116,41 +110,21 @@ fn task_of(args: &[String]) -> Option<Task> {
     })
 }
 
-/// The worlds of a table.
+/// The worlds of a machine.
 fn live_each(
     alloc: Global,
-    table: &Table,
-    plan: &Plan,
-    random: &mut Random,
-    events: u64,
-    sum: &mut Sum,
-) -> Result<(), AllocError>
-    requires accepted { compile_fault table.now ≡ None }
-    requires plan { plan.now ≡ plan_of table.now }
-{
-    let identities = identities_of(alloc, table)?;
-    for kind in WORLDS {
-        sum.add(live(alloc, table, plan, &identities, random, kind, events)?);
-    }
-    Ok(())
-}
-
-/// The worlds of a table that was read. A table without a plan is wrong.
-fn live_over(
-    alloc: Global,
-    table: &Table,
+    machine: &Machine,
     random: &mut Random,
     events: u64,
     sum: &mut Sum,
 ) -> Result<(), AllocError> {
-    let Ok(plan) = compile(alloc, table) else {
-        sum.is_right = false;
-        return Ok(());
-    };
-    live_each(alloc, table, &plan, random, events, sum)
+    for kind in WORLDS {
+        sum.add(live(alloc, machine, random, kind, events)?);
+    }
+    Ok(())
 }
 
-/// The worlds of a text. A text that is no table is wrong.
+/// The worlds of a text. A text that is no table, or has no plan, is wrong.
 fn live_all(
     alloc: Global,
     text: &str,
@@ -158,11 +132,13 @@ fn live_all(
     events: u64,
     sum: &mut Sum,
 ) -> Result<(), AllocError> {
-    let Ok(table) = read_table(alloc, text) else {
-        sum.is_right = false;
-        return Ok(());
-    };
-    live_over(alloc, &table, random, events, sum)
+    match Machine::read(alloc, text) {
+        Ok(machine) => live_each(alloc, &machine, random, events, sum),
+        Err(_) => {
+            sum.is_right = false;
+            Ok(())
+        }
+    }
 }
 
 /// All tables.

@@ -6,7 +6,7 @@ ghost use Rattle.ec_link.specs.Usable.{IsUsable};
 
 use crate::memory::table::{SCRIPT, TABLE};
 use ec_cycle::Master;
-use ec_device::Identity;
+use ec_device::{Identity, SlaveType};
 use ec_link::{Plan, compile};
 use ec_script::read_script;
 use ec_slave::Slave;
@@ -103,17 +103,21 @@ fn written(alloc: Global, table: &Table, plan: &Plan) -> Answer {
     }
 }
 
-/// The last slave of the plan, just switched on.
-fn new_slave(alloc: Global, plan: &Plan) -> Result<Answer, AllocError> {
-    let Some(settings) = plan.slaves().last() else {
-        return Ok(Ok(0));
-    };
-    let kind = settings.kind.copied(alloc)?;
+/// A slave of a type, just switched on.
+fn switched_on(alloc: Global, kind: SlaveType) -> Answer {
     let identity = kind.device().identity(0);
-    Ok(match Slave::new(alloc, kind, identity) {
+    match Slave::new(alloc, kind, identity) {
         Ok(slave) => Ok(slave.byte(0x0130).map_or(0, |byte| usize::from(byte))),
         Err(_) => Err(MEMORY),
-    })
+    }
+}
+
+/// The last slave of the plan.
+fn new_slave(alloc: Global, plan: &Plan) -> Result<Answer, AllocError> {
+    match plan.slaves().last() {
+        Some(settings) => Ok(switched_on(alloc, settings.kind.copied(alloc)?)),
+        None => Ok(Ok(0)),
+    }
 }
 
 fn mastered(alloc: Global, plan: &Plan) -> Answer

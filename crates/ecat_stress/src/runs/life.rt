@@ -1,14 +1,8 @@
 //! A world that gets events at random, beside one that gets the same in lists.
-ghost use Rattle.std.specs.Prelude.{◌≡◌, None, length};
-ghost use Rattle.ec_link.specs.Faults.{compile_fault};
-ghost use Rattle.ec_link.specs.Plan.{plan_of};
-
 use crate::runs::events::{Kind, next_event, next_move};
 use crate::runs::model::Model;
 use ec_cycle::Report;
-use ec_device::Identity;
-use ec_link::Plan;
-use ec_table::Table;
+use ec_link::{Machine, Plan};
 use ec_world::{Event, World};
 use std::alloc::{AllocError, Global};
 use test_data::Random;
@@ -29,6 +23,18 @@ pub struct Seen {
     pub is_right: bool,
 }
 
+impl Seen {
+    /// A unit of the cycle at the end, and whether it must have been taken, if that is known.
+    fn count(&mut self, is_taken: bool, must: Option<bool>) {
+        self.is_right = self.is_right && must.is_none_or(|must| must == is_taken);
+        if is_taken {
+            self.taken = self.taken.saturating_add(1);
+        } else {
+            self.untaken = self.untaken.saturating_add(1);
+        }
+    }
+}
+
 /// Before anything was seen.
 const NOTHING: Seen = Seen {
     tried: 0,
@@ -40,10 +46,10 @@ const NOTHING: Seen = Seen {
 
 /// Two worlds that get the same events, and what is known of them.
 #[derive(Drop)]
-struct Life<'p> {
+struct Life<'w, 'p> {
     plan: &'p Plan,
-    stepped: World<'p>,
-    ran: World<'p>,
+    stepped: &'w mut World<'p>,
+    ran: &'w mut World<'p>,
     model: Model,
     seen: Seen,
 }
@@ -63,15 +69,23 @@ fn are_same_reports(one: Option<&Report>, other: Option<&Report>) -> bool {
     }
 }
 
-/// Whether worlds have the same values and outputs.
+/// Whether worlds have the same values.
 fn have_same_values(one: &World<'_>, other: &World<'_>) -> bool {
-    if one.variables() != other.variables() || one.slaves() != other.slaves() {
+    if one.variables() != other.variables() {
         return false;
     }
     for variable in 0..one.variables() {
         if one.input(variable) != other.input(variable) {
             return false;
         }
+    }
+    true
+}
+
+/// Whether worlds have the same outputs.
+fn have_same_outputs(one: &World<'_>, other: &World<'_>) -> bool {
+    if one.slaves() != other.slaves() {
+        return false;
     }
     for slave in 0..one.slaves() {
         if one.outputs(slave) != other.outputs(slave) {
@@ -97,13 +111,14 @@ fn are_same(one: &World<'_>, other: &World<'_>) -> bool {
         && one.byte() == other.byte()
         && are_same_reports(one.report(), other.report())
         && have_same_values(one, other)
+        && have_same_outputs(one, other)
         && have_same_frames(one, other)
 }
 
-impl Life<'_> {
+impl Life<'_, '_> {
     /// Makes an event in the first world. Whether it was made where it must be, and only there.
     fn step(&mut self, event: Event) -> bool {
-        let must = self.model.can_happen(&self.stepped, self.plan, event);
+        let must = self.model.can_happen(self.stepped, self.plan, event);
         let is_ready = self.stepped.is_ready();
         let has_failed = matches!(self.stepped.outcome(), Some(Err(_)));
         let is_made = self.stepped.step(event);
@@ -128,13 +143,13 @@ impl Life<'_> {
         list.clear();
         let before = self.seen.made;
         for _ in 0..1 + random.below(LIST) {
-            let event = next_event(random, &self.stepped, self.plan, &self.model, kind);
+            let event = next_event(random, self.stepped, self.plan, &self.model, kind);
             list.push(event)?;
             self.seen.is_right = self.step(event) && self.seen.is_right;
         }
         let made = self.ran.run(list.as_slice()) as u64;
         let is_same = made == self.seen.made.saturating_sub(before)
-            && are_same(&self.stepped, &self.ran);
+            && are_same(self.stepped, self.ran);
         self.seen.is_right = self.seen.is_right && is_same;
         Ok(())
     }
@@ -163,7 +178,7 @@ impl Life<'_> {
     /// All frames go on until none is on its way.
     fn carry(&mut self) {
         for _ in 0..4096 {
-            match next_move(&self.stepped) {
+            match next_move(self.stepped) {
                 Some(event) => self.must(event),
                 None => return,
             }
@@ -198,12 +213,7 @@ impl Life<'_> {
         };
         for (unit, is_taken) in report.units().iter().zip(report.units_taken().iter()) {
             let must = self.model.must_take(self.plan, *unit);
-            self.seen.is_right = self.seen.is_right && must.is_none_or(|must| must == *is_taken);
-            if *is_taken {
-                self.seen.taken = self.seen.taken.saturating_add(1);
-            } else {
-                self.seen.untaken = self.seen.untaken.saturating_add(1);
-            }
+            self.seen.count(*is_taken, must);
         }
         self.seen.is_right = self.seen.is_right && report.missing() == 0;
     }
@@ -219,32 +229,10 @@ impl Life<'_> {
     }
 }
 
-/// Two new worlds of a table.
-fn new_life<'p>(
-    alloc: Global,
-    table: &Table,
-    plan: &'p Plan,
-    identities: &[Identity],
-) -> Result<Life<'p>, AllocError>
-    requires accepted { compile_fault table.now ≡ None }
-    requires plan { plan.now ≡ plan_of table.now }
-    requires one_each { length identities.now ≡ length table.now.slaves }
-{
-    let stepped = World::new(alloc, table, plan, identities)?;
-    let ran = World::new(alloc, table, plan, identities)?;
-    Ok(Life {
-        plan,
-        stepped,
-        ran,
-        model: Model::new(),
-        seen: NOTHING,
-    })
-}
-
 /// The worlds get at least so many events. What was seen of those.
 fn go_on(
     alloc: Global,
-    life: &mut Life<'_>,
+    life: &mut Life<'_, '_>,
     random: &mut Random,
     kind: Kind,
     events: u64,
@@ -258,27 +246,52 @@ fn go_on(
     Ok(life.seen)
 }
 
-/// Two worlds of a table get at least so many events, the first one by one, the second in lists, and the first an undisturbed cycle
-/// at the end.
-pub fn live(
+/// The worlds get at least so many events, and the first an undisturbed cycle at the end.
+fn live_on(
     alloc: Global,
-    table: &Table,
-    plan: &Plan,
-    identities: &[Identity],
+    life: &mut Life<'_, '_>,
     random: &mut Random,
     kind: Kind,
     events: u64,
-) -> Result<Seen, AllocError>
-    requires accepted { compile_fault table.now ≡ None }
-    requires plan { plan.now ≡ plan_of table.now }
-    requires one_each { length identities.now ≡ length table.now.slaves }
-{
-    let mut life = new_life(alloc, table, plan, identities)?;
-    let seen = go_on(alloc, &mut life, random, kind, events)?;
+) -> Result<Seen, AllocError> {
+    let seen = go_on(alloc, life, random, kind, events)?;
     life.end();
     Ok(Seen {
         tried: seen.tried,
         made: seen.made,
         ..life.seen
     })
+}
+
+/// A world that gets its events one by one, beside a new one of its machine that gets them in lists.
+fn live_beside<'p>(
+    alloc: Global,
+    machine: &'p Machine,
+    stepped: &mut World<'p>,
+    random: &mut Random,
+    kind: Kind,
+    events: u64,
+) -> Result<Seen, AllocError> {
+    let mut ran = World::of_machine(alloc, machine)?;
+    let mut life = Life {
+        plan: machine.plan(),
+        stepped,
+        ran: &mut ran,
+        model: Model::new(),
+        seen: NOTHING,
+    };
+    live_on(alloc, &mut life, random, kind, events)
+}
+
+/// Two worlds of a machine get at least so many events, the first one by one, the second in lists, and the first an undisturbed cycle
+/// at the end.
+pub fn live(
+    alloc: Global,
+    machine: &Machine,
+    random: &mut Random,
+    kind: Kind,
+    events: u64,
+) -> Result<Seen, AllocError> {
+    let mut stepped = World::of_machine(alloc, machine)?;
+    live_beside(alloc, machine, &mut stepped, random, kind, events)
 }

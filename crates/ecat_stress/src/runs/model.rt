@@ -106,6 +106,14 @@ fn may_pass(world: &World<'_>, slot: usize) -> bool {
     frame.passed < world.slaves()
 }
 
+/// Whether the frame of a slot may come back.
+fn may_return(world: &World<'_>, slot: usize) -> bool {
+    match world.progress(slot) {
+        Some(frame) => frame.passed == world.slaves(),
+        None => false,
+    }
+}
+
 /// Whether a value can be set.
 fn may_set(plan: &Plan, variable: usize, value: u64) -> bool {
     match plan.variables().get(variable) {
@@ -206,26 +214,35 @@ impl Model {
 
     /// Whether an event can be made; none where that isn't known.
     pub fn can_happen(&self, world: &World<'_>, plan: &Plan, event: Event) -> Option<bool> {
-        let can = match event {
-            Event::StartNext => !world.is_ready() && !self.awaits && frames(world) == 0,
-            Event::Set(variable, value) => may_set(plan, variable, value),
-            Event::Begin => {
-                let free = world.slots().saturating_sub(frames(world));
-                world.is_ready() && !self.is_open && plan.parts().len() <= free
-            }
-            Event::Pass(slot) => may_pass(world, slot),
-            Event::Lose(slot) => world.progress(slot).is_some(),
-            Event::Return(slot) => match world.progress(slot) {
-                Some(frame) => frame.passed == world.slaves(),
-                None => false,
-            },
-            Event::Close => self.is_open || self.awaits,
-            Event::Serve(slave) | Event::Reset(slave) => slave < world.slaves(),
-            Event::AppPut(..) | Event::AppGet(..) => return self.may_take(world, plan, event),
-            Event::Fault(slave) => return self.may_fail(world, slave),
-            Event::Stop => world.is_ready() && !self.is_open && frames(world) == 0,
-        };
-        Some(can)
+        match event {
+            Event::StartNext => Some(self.may_start(world)),
+            Event::Set(variable, value) => Some(may_set(plan, variable, value)),
+            Event::Begin => Some(self.may_begin(world, plan)),
+            Event::Pass(slot) => Some(may_pass(world, slot)),
+            Event::Lose(slot) => Some(world.progress(slot).is_some()),
+            Event::Return(slot) => Some(may_return(world, slot)),
+            Event::Close => Some(self.is_open || self.awaits),
+            Event::Serve(slave) | Event::Reset(slave) => Some(slave < world.slaves()),
+            Event::AppPut(..) | Event::AppGet(..) => self.may_take(world, plan, event),
+            Event::Fault(slave) => self.may_fail(world, slave),
+            Event::Stop => Some(self.may_stop(world)),
+        }
+    }
+
+    /// Whether the start-up may send its next frame.
+    fn may_start(&self, world: &World<'_>) -> bool {
+        !world.is_ready() && !self.awaits && frames(world) == 0
+    }
+
+    /// Whether a cycle may begin.
+    fn may_begin(&self, world: &World<'_>, plan: &Plan) -> bool {
+        let free = world.slots().saturating_sub(frames(world));
+        world.is_ready() && !self.is_open && plan.parts().len() <= free
+    }
+
+    /// Whether the master may stop.
+    fn may_stop(&self, world: &World<'_>) -> bool {
+        world.is_ready() && !self.is_open && frames(world) == 0
     }
 
     /// The start-up sends a frame.

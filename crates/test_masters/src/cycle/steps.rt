@@ -22,7 +22,7 @@ use ec_bringup::{bring_up, slaves_of_machine};
 use ec_cycle::{CycleError, Master, Report, Taken};
 use ec_link::{ExpectedCounters, Machine, Plan};
 use ec_start::{Phase, Startup};
-use std::alloc::{AllocError, Global};
+use std::alloc::AllocError;
 use std::process::Abort;
 
 /// Appends so many zeros.
@@ -137,22 +137,26 @@ fn expect_taken(
     expect_same(rt, &met, &taken, line.text);
 }
 
-/// What a refusal says: its number, its name, and words.
-fn words_of(alloc: Global, error: CycleError) -> Result<String, AllocError> {
-    format!(in alloc; "{} {} {error}", error.number(), error.name())
-}
-
 /// Compares words, as they are made.
 fn expect_words(rt: &impl Abort, words: Result<String, AllocError>, wanted: &str) {
     let words = words.expect(rt, "memory");
     expect_same(rt, &words.as_str(), &wanted, "a refusal");
 }
 
-/// There is a refusal, and it says this.
-fn expect_refused(rt: &(impl AllocGlobal + Abort), refusal: Option<CycleError>, wanted: &str) {
+/// Compares a refusal's number, its name, and what it says.
+fn expect_refusal(rt: &(impl AllocGlobal + Abort), error: CycleError, about: &str) {
+    let (number, rest) = parts(about, " ");
+    let (name, wanted) = parts(rest, " ");
+    let is_named = u64::from(error.number()) == number_of(rt, number) && error.name() == name;
+    expect(rt, is_named, about);
+    expect_words(rt, format!(in rt.alloc(); "{error}"), wanted);
+}
+
+/// There is a refusal, and it is this one.
+fn expect_refused(rt: &(impl AllocGlobal + Abort), refusal: Option<CycleError>, about: &str) {
     match refusal {
-        Some(error) => expect_words(rt, words_of(rt.alloc(), error), wanted),
-        None => expect(rt, false, wanted),
+        Some(error) => expect_refusal(rt, error, about),
+        None => expect(rt, false, about),
     }
 }
 
@@ -191,7 +195,7 @@ fn expect_report(rt: &impl Abort, report: &Report, line: &Line<'_>) {
     let (units, counters) = (word_at(line.about, 0), word_at(line.about, 1));
     expect_units(rt, report.units_taken(), units);
     expect_counters(rt, report.counters().as_slice(), counters);
-    let missing = counters.split(',').filter(|word| *word == "-").count();
+    let missing = counters.split('-').count().saturating_sub(1);
     expect_same(
         rt,
         &(report.units().len(), report.missing(), report.is_taken()),

@@ -6,8 +6,36 @@ use Rattle.toml.specs.View.{view, members_view}
 use Rattle.toml.proofs.Views.{Entry}
 use Rattle.ec_table.specs.Fields.{full_format, viewed}
 use Rattle.ec_table.specs.Keys.{names_of, place_in}
-use Rattle.ec_table.proofs.KeyPlaces.{keys_at_end, keys_not, known_place, no_place, one_more, place_inside, values_at_end}
+use Rattle.ec_table.proofs.KeyPlaces.{keys_at_end, keys_not, known_place, no_place, one_more, place_inside, place_short, values_at_end}
 use Rattle.ec_table.proofs.values.values_of.Goals as goal
+
+pub bounds-found-place : goal.bounds-found-place
+bounds-found-place c =
+    let placed : place_in c.args.shape c.args.format (string_bytes c.in-Some.key.now) ≡ Some c.in_ok-place.place = sym (rw c.as_str.ensures.value at c.in_ok-place.ensures) in
+    let short = place_short c.args.shape c.args.format (string_bytes c.in-Some.key.now) c.in_ok-place.place placed in
+    let (_, long, _) = c.loop-key.invariant in
+    omega (arith, short, long)
+
+pub offset_bounds-found-place : goal.offset_bounds-found-place
+offset_bounds-found-place c =
+    let placed : place_in c.args.shape c.args.format (string_bytes c.in-Some.key.now) ≡ Some c.in_ok-place.place = sym (rw c.as_str.ensures.value at c.in_ok-place.ensures) in
+    let short = place_short c.args.shape c.args.format (string_bytes c.in-Some.key.now) c.in_ok-place.place placed in
+    let (_, long, _) = c.loop-key.invariant in
+    omega (arith, short, long)
+
+pub bounds-found-place-in-loop-key : goal.bounds-found-place-in-loop-key
+bounds-found-place-in-loop-key c =
+    let placed : place_in c.args.shape c.args.format (string_bytes c.in-Some.key.now) ≡ Some c.in_ok-place.place = sym (rw c.as_str.ensures.value at c.in_ok-place.ensures) in
+    let short = place_short c.args.shape c.args.format (string_bytes c.in-Some.key.now) c.in_ok-place.place placed in
+    let (_, long, _) = c.loop-key.invariant in
+    omega (arith, short, long)
+
+pub offset_bounds-found-place-in-loop-key : goal.offset_bounds-found-place-in-loop-key
+offset_bounds-found-place-in-loop-key c =
+    let placed : place_in c.args.shape c.args.format (string_bytes c.in-Some.key.now) ≡ Some c.in_ok-place.place = sym (rw c.as_str.ensures.value at c.in_ok-place.ensures) in
+    let short = place_short c.args.shape c.args.format (string_bytes c.in-Some.key.now) c.in_ok-place.place placed in
+    let (_, long, _) = c.loop-key.invariant in
+    omega (arith, short, long)
 
 pub loop-key-preserved : goal.loop-key-preserved
 loop-key-preserved c =

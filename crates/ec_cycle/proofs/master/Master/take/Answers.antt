@@ -12,7 +12,7 @@ use Rattle.ec_cycle.specs.Matching.{AnswersPart, Answered}
 use Rattle.ec_cycle.specs.MasterFields.{IsUnderWay}
 use Rattle.ec_cycle.proofs.Matches.{answer_size, kept_on, part_answers}
 use Rattle.ec_cycle.proofs.Runs.{few_of}
-use Rattle.ec_cycle.proofs.States.{foreign_state, number_open, state_of, taken_state}
+use Rattle.ec_cycle.proofs.States.{foreign_state, number_open, shut_state, state_of, strange_state, taken_state}
 use Rattle.ec_cycle.proofs.master.Master.take.Goals as goal
 
 pub answered-requires-clause-sent : goal.answered-requires-clause-sent
@@ -84,3 +84,15 @@ returns c =
     subst (λ (m : MasterState). IsTaken m c.args.payload.now true (state_of (plan_in c.self.inside.held) c.self.inside.is_ready c.self.inside.next c.self.inside.outputs.items c.self.inside.inputs.items c.self.inside.frames.items (set c.self.inside.kept.items c.in-Some.part c.keep.new.self) c.self.inside.number)) c.self.view_is
     (taken_state (plan_in c.self.inside.held) c.self.inside.is_ready c.self.inside.next c.self.inside.outputs.items c.self.inside.inputs.items c.self.inside.frames.items c.self.inside.kept.items c.self.inside.number n.0 c.args.payload.now p c.in-Some.part c.keep.new.self n.1 h
     (c.self.invariant.under_way n.0 n.1) c.self.invariant.frame_count c.self.invariant.usable.few_parts a new)
+
+pub returns-then-is_none : goal.returns-then-is_none
+returns-then-is_none c =
+    let i = c.self.inside in
+    subst (λ (m : MasterState). IsTaken m c.args.payload.now false m) c.self.view_is
+    (shut_state (plan_in i.held) i.is_ready i.next i.outputs.items i.inputs.items i.frames.items i.kept.items i.number c.is_none.result c.args.payload.now c.is_none.ensures c.if-is_none.true)
+
+pub returns-in_default : goal.returns-in_default
+returns-in_default c =
+    let i = c.self.inside in
+    subst (λ (m : MasterState). IsTaken m c.args.payload.now false m) c.self.view_is
+    (strange_state (plan_in i.held) i.is_ready i.next i.outputs.items i.inputs.items i.frames.items i.kept.items i.number c.args.payload.now (λ q h. c.in_default.not-Ok (length q.datagrams) (c.check.ensures.accepts q h)))
