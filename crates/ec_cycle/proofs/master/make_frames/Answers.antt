@@ -1,4 +1,4 @@
-use Rattle.std.proofs.Common.{ℕ, ◌<◌, ◌≡◌, List, [], arith, length}
+use Rattle.std.proofs.Common.{ℕ, ◌<◌, List, [], arith, length}
 use Rattle.ec_frame.specs.Building.{bare_payload}
 use Rattle.ec_frame.specs.Frame.{IsFrame}
 use Rattle.ec_cycle.specs.Frames.{sent_datagrams}
